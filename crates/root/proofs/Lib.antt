@@ -1,0 +1,5 @@
+pub mod Words
+pub mod Normal
+pub mod Drawn
+pub mod Classes
+pub mod Rows

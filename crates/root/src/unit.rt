@@ -1,0 +1,58 @@
+// A root unit: what is asked for roots, and counts how often.
+use crate::longhand::longhand_root;
+use width::F32Width;
+use width::F64Width;
+ghost use mathlib.Core.Path.{_≡_};
+ghost use Prim.Native.Nat.{ℕ};
+ghost use lib.Ieee.{binary32, binary64};
+ghost use Rattle.rootlaws.specs.Roots.{NearestRoot};
+ghost use Rattle.root.specs.Count.{raised};
+
+/// Answers the nearest root of every float, and counts what it was asked. It never declines. Its
+/// meaning is one number, the count, which stays at 4,294,967,295 once it is there.
+pub trait RootUnit {
+    ghost count: { Self → ℕ };
+
+    fn wide_root(&mut self, v: f64) -> f64
+        ensures nearest { λ r. ⌜ NearestRoot binary64 v r ⌝ }
+        ensures counted { λ _. ⌜ count (now (self .exit)) ≡ raised (count (now (self .entry))) ⌝ };
+
+    fn narrow_root(&mut self, v: f32) -> f32
+        ensures nearest { λ r. ⌜ NearestRoot binary32 v r ⌝ }
+        ensures counted { λ _. ⌜ count (now (self .exit)) ≡ raised (count (now (self .entry))) ⌝ };
+
+    fn asked(&self) -> u32
+        ensures { λ r. ⌜ r ≡ count (now (self .entry)) ⌝ };
+}
+
+/// The unit that draws its roots by longhand.
+#[derive(Drop)]
+pub struct Longhand {
+    asked: u32,
+}
+
+impl Longhand {
+    pub fn new() -> Longhand
+        ensures { λ r. ⌜ r .asked ≡ 0 ⌝ }
+    {
+        Longhand { asked: 0 }
+    }
+}
+
+pub impl RootUnit for Longhand as LonghandUnit {
+    ghost count = { λ s. s .asked };
+
+    fn wide_root(&mut self, v: f64) -> f64 {
+        self.asked = self.asked.saturating_add(1);
+        longhand_root(v)
+    }
+
+    fn narrow_root(&mut self, v: f32) -> f32 {
+        self.asked = self.asked.saturating_add(1);
+        longhand_root(v)
+    }
+
+    fn asked(&self) -> u32 {
+        self.asked
+    }
+}

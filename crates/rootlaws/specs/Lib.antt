@@ -1,0 +1,4 @@
+pub mod Whole
+pub mod Split
+pub mod Longhand
+pub mod Roots

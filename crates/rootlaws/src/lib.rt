@@ -1,0 +1,1 @@
+// The laws of the root, on whole numbers.

@@ -1,0 +1,147 @@
+// The integers that hold patterns.
+ghost use mathlib.Core.Path.{_≡_};
+ghost use Prim.Native.Nat.{ℕ, _+_, _-_, _*_, _/_, _%_, _^_, _<_};
+ghost use lib.Bits.{bitAnd, bitOr};
+ghost use lib.Count.{leadingZeros};
+ghost use lib.Dec.{eqb, ltb};
+
+/// An unsigned integer: a number below 2^bits. Nothing here panics: a sum, a difference and a
+/// product wrap, and a shift by `bits` or more leaves nothing.
+pub trait Int: Copy {
+    ghost nat: { Self → ℕ };
+
+    ghost bits: { ℕ };
+
+    fn from_u32(x: u32) -> Self
+        ensures { λ r. ⌜ nat r ≡ x % 2 ^ bits ⌝ };
+
+    fn low_u32(self) -> u32
+        ensures { λ r. ⌜ r ≡ nat self % 2 ^ 32 ⌝ };
+
+    fn shl(self, by: u32) -> Self
+        ensures { λ r. ⌜ nat r ≡ nat self * 2 ^ by % 2 ^ bits ⌝ };
+
+    fn shr(self, by: u32) -> Self
+        ensures { λ r. ⌜ nat r ≡ nat self / 2 ^ by ⌝ };
+
+    fn bitand(self, other: Self) -> Self
+        ensures { λ r. ⌜ nat r ≡ bitAnd (nat self) (nat other) ⌝ };
+
+    fn bitor(self, other: Self) -> Self
+        ensures { λ r. ⌜ nat r ≡ bitOr (nat self) (nat other) ⌝ };
+
+    fn wrapping_add(self, other: Self) -> Self
+        ensures { λ r. ⌜ nat r ≡ (nat self + nat other) % 2 ^ bits ⌝ };
+
+    fn wrapping_sub(self, other: Self) -> Self
+        ensures { λ r. ⌜ nat r ≡ (nat self + (2 ^ bits - nat other)) % 2 ^ bits ⌝ };
+
+    fn leading_zeros(self) -> u32
+        ensures { λ r. ⌜ r ≡ leadingZeros bits (nat self) ⌝ };
+
+    fn lt(self, other: Self) -> bool
+        ensures { λ r. ⌜ r ≡ ltb (nat self) (nat other) ⌝ };
+
+    fn eq(self, other: Self) -> bool
+        ensures { λ r. ⌜ r ≡ eqb (nat self) (nat other) ⌝ };
+}
+
+pub impl Int for u32 as U32Int {
+    ghost nat = { λ x. x };
+
+    ghost bits = { 32 };
+
+    fn from_u32(x: u32) -> u32 {
+        x
+    }
+
+    fn low_u32(self) -> u32 {
+        self
+    }
+
+    fn shl(self, by: u32) -> u32 {
+        if by < 32 { self << by } else { 0 }
+    }
+
+    fn shr(self, by: u32) -> u32 {
+        if by < 32 { self >> by } else { 0 }
+    }
+
+    fn bitand(self, other: u32) -> u32 {
+        self & other
+    }
+
+    fn bitor(self, other: u32) -> u32 {
+        self | other
+    }
+
+    fn wrapping_add(self, other: u32) -> u32 {
+        self.wrapping_add(other)
+    }
+
+    fn wrapping_sub(self, other: u32) -> u32 {
+        self.wrapping_sub(other)
+    }
+
+    fn leading_zeros(self) -> u32 {
+        self.leading_zeros()
+    }
+
+    fn lt(self, other: u32) -> bool {
+        self < other
+    }
+
+    fn eq(self, other: u32) -> bool {
+        self == other
+    }
+}
+
+pub impl Int for u64 as U64Int {
+    ghost nat = { λ x. x };
+
+    ghost bits = { 64 };
+
+    fn from_u32(x: u32) -> u64 {
+        x as u64
+    }
+
+    fn low_u32(self) -> u32 {
+        (self % 0x1_0000_0000) as u32
+    }
+
+    fn shl(self, by: u32) -> u64 {
+        if by < 64 { self << by } else { 0 }
+    }
+
+    fn shr(self, by: u32) -> u64 {
+        if by < 64 { self >> by } else { 0 }
+    }
+
+    fn bitand(self, other: u64) -> u64 {
+        self & other
+    }
+
+    fn bitor(self, other: u64) -> u64 {
+        self | other
+    }
+
+    fn wrapping_add(self, other: u64) -> u64 {
+        self.wrapping_add(other)
+    }
+
+    fn wrapping_sub(self, other: u64) -> u64 {
+        self.wrapping_sub(other)
+    }
+
+    fn leading_zeros(self) -> u32 {
+        self.leading_zeros()
+    }
+
+    fn lt(self, other: u64) -> bool {
+        self < other
+    }
+
+    fn eq(self, other: u64) -> bool {
+        self == other
+    }
+}
