@@ -8,7 +8,7 @@ ghost use mathlib.Core.Path.{_≡_};
 ghost use mathlib.Core.Bool.{true};
 ghost use lib.Ieee.{Float, binary32, binary64, ofBits, toBits};
 ghost use Rattle.std.specs.shelf.Lists.{All};
-ghost use Rattle.rootlaws.specs.Roots.{NearestRoot};
+ghost use Rattle.rootlaws.specs.Roots.{NearestRoot, OneRoot};
 ghost use Rattle.root.specs.Count.{raised};
 ghost use Rattle.root.specs.Known.{rows, Known};
 
@@ -26,9 +26,11 @@ fn narrow_is<U: RootUnit>(unit: &mut U, of: u32, root: u32) -> bool
 
 /// Asks the unit for the known roots: of 4, of 2, of the least number of each width, of the
 /// greatest narrow one and of -1. That each comes as stated is proved, so an answer `false` means
-/// that the program was not built as it is written.
+/// that the program was not built as it is written. That a number has no second nearest root is
+/// proved here too.
 pub fn known_roots<U: RootUnit>(unit: &mut U) -> bool
     ensures rows { λ _. ⌜ All Known rows ⌝ }
+    ensures one { λ _. ⌜ OneRoot ⌝ }
     ensures come { λ r. ⌜ r ≡ true ⌝ }
 {
     wide_is(unit, 0x4010_0000_0000_0000, 0x4000_0000_0000_0000)

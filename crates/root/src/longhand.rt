@@ -4,7 +4,8 @@ use width::Layout;
 use width::Width;
 ghost use mathlib.Core.Path.{_≡_};
 ghost use Prim.Native.Nat.{ℕ, suc, _+_, _-_, _*_, _/_, _%_, _^_, _<_, _≤_};
-ghost use Rattle.width.specs.Shape.{Shape, infinity, width as widthOf};
+ghost use lib.Ieee.{ofBits};
+ghost use Rattle.width.specs.Shape.{Shape, shapeOf, infinity, width as widthOf};
 ghost use Rattle.rootlaws.specs.Longhand.{Held, Exact};
 ghost use Rattle.rootlaws.specs.Roots.{RootBits, NearestRoot};
 ghost use Rattle.rootlaws.specs.Split.{sigOf, expOf, wordOf, lift};
@@ -150,12 +151,20 @@ pub fn longhand<L: Layout>(ix: L::Int) -> L::Int
     positive_root::<L>(ix)
 }
 
+// The root of the float with the pattern `ix`.
+fn root_of<W: Width>(ix: W::Int) -> W
+    requires { ⌜ Int·Int .nat ix < 2 ^ widthOf (shapeOf (W·Width .fmt)) ⌝ }
+    ensures { λ r. ⌜ NearestRoot (W·Width .fmt) (ofBits (W·Width .fmt) (Int·Int .nat ix)) (W·Width .val r) ⌝ }
+{
+    W::from_pattern(longhand::<W>(ix))
+}
+
 /// The nearest root of a float, by longhand.
 pub fn longhand_root<W: Width>(x: W) -> W
     ensures { λ r. ⌜ NearestRoot (W·Width .fmt) (W·Width .val x) (W·Width .val r) ⌝ }
 {
     match x.pattern() {
         None => x,
-        Some(ix) => W::from_pattern(longhand::<W>(ix)),
+        Some(ix) => root_of::<W>(ix),
     }
 }

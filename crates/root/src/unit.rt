@@ -28,31 +28,38 @@ pub trait RootUnit {
 /// The unit that draws its roots by longhand.
 #[derive(Drop)]
 pub struct Longhand {
-    asked: u32,
+    roots: u32,
 }
 
 impl Longhand {
     pub fn new() -> Longhand
-        ensures { λ r. ⌜ r .asked ≡ 0 ⌝ }
+        ensures { λ r. ⌜ r .roots ≡ 0 ⌝ }
     {
-        Longhand { asked: 0 }
+        Longhand { roots: 0 }
+    }
+
+    fn count_one(&mut self)
+        ensures { λ _. ⌜ now (self .exit) .roots ≡ raised (now (self .entry) .roots) ⌝ }
+    {
+        let Longhand { roots } = self;
+        *roots = roots.saturating_add(1);
     }
 }
 
 pub impl RootUnit for Longhand as LonghandUnit {
-    ghost count = { λ s. s .asked };
+    ghost count = { λ s. s .roots };
 
     fn wide_root(&mut self, v: f64) -> f64 {
-        self.asked = self.asked.saturating_add(1);
+        self.count_one();
         longhand_root(v)
     }
 
     fn narrow_root(&mut self, v: f32) -> f32 {
-        self.asked = self.asked.saturating_add(1);
+        self.count_one();
         longhand_root(v)
     }
 
     fn asked(&self) -> u32 {
-        self.asked
+        self.roots
     }
 }

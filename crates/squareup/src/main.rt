@@ -1,12 +1,7 @@
 // Squares up fields: reads the sides of each, and prints the diagonal that its corners must show.
-mod field;
-mod line;
-mod refusal;
-mod sides;
-
-use field::diagonal;
-use line::sides_of;
-use refusal::RefusalDisplay;
+use field::diagonal::diagonal;
+use field::line::sides_of;
+use field::refusal::RefusalDisplay;
 use root::known::known_roots;
 use root::unit::Longhand;
 use root::unit::LonghandUnit;

@@ -1,9 +1,5 @@
 // The source's `Float` as two interfaces: what a pattern's fields are, and arithmetic.
 use crate::int_traits::Int;
-use crate::int_traits::U32Int;
-use crate::int_traits::U64Int;
-use std::num::f32_from_bits_with_nan;
-use std::num::f64_from_bits_with_nan;
 use std::ops::Add;
 use std::ops::Div;
 use std::ops::Mul;
@@ -12,7 +8,7 @@ use std::ops::Sub;
 ghost use mathlib.Core.Path.{_≡_};
 ghost use Prim.Native.Nat.{ℕ, suc, _+_, _-_, _*_, _/_, _%_, _^_, _<_};
 ghost use lib.Ieee as Ieee;
-ghost use lib.Ieee.{Float, Format, binary32, binary64};
+ghost use lib.Ieee.{Float, Format};
 ghost use Rattle.std.specs.Floats as Floats;
 ghost use Rattle.std.specs.Options.{Cases as BySome};
 ghost use Rattle.width.specs.Pattern.{PatternOf};
@@ -74,82 +70,6 @@ pub trait Layout {
         ensures quiet_nan { λ r. ⌜ Int·Int .nat (r .«quiet_nan») ≡ quiet shape ⌝ };
 }
 
-pub impl Layout for f32 as F32Layout {
-    type Int = u32;
-
-    const BITS: u32 = 32;
-
-    const SIG_BITS: u32 = 23;
-
-    const EXP_BITS: u32 = 8;
-
-    const EXP_BIAS: u32 = 127;
-
-    const SIGN_MASK: u32 = 0x8000_0000;
-
-    const SIG_MASK: u32 = 0x007f_ffff;
-
-    const EXP_MASK: u32 = 0x7f80_0000;
-
-    const IMPLICIT_BIT: u32 = 0x0080_0000;
-
-    const QUIET_NAN: u32 = 0x7fc0_0000;
-
-    ghost shape = { shapeOf binary32 };
-
-    fn fields() -> Fields<u32> {
-        Fields {
-            bits: Self::BITS,
-            sig_bits: Self::SIG_BITS,
-            exp_bits: Self::EXP_BITS,
-            exp_bias: Self::EXP_BIAS,
-            sign_mask: Self::SIGN_MASK,
-            sig_mask: Self::SIG_MASK,
-            exp_mask: Self::EXP_MASK,
-            implicit_bit: Self::IMPLICIT_BIT,
-            quiet_nan: Self::QUIET_NAN,
-        }
-    }
-}
-
-pub impl Layout for f64 as F64Layout {
-    type Int = u64;
-
-    const BITS: u32 = 64;
-
-    const SIG_BITS: u32 = 52;
-
-    const EXP_BITS: u32 = 11;
-
-    const EXP_BIAS: u32 = 1023;
-
-    const SIGN_MASK: u64 = 0x8000_0000_0000_0000;
-
-    const SIG_MASK: u64 = 0x000f_ffff_ffff_ffff;
-
-    const EXP_MASK: u64 = 0x7ff0_0000_0000_0000;
-
-    const IMPLICIT_BIT: u64 = 0x0010_0000_0000_0000;
-
-    const QUIET_NAN: u64 = 0x7ff8_0000_0000_0000;
-
-    ghost shape = { shapeOf binary64 };
-
-    fn fields() -> Fields<u64> {
-        Fields {
-            bits: Self::BITS,
-            sig_bits: Self::SIG_BITS,
-            exp_bits: Self::EXP_BITS,
-            exp_bias: Self::EXP_BIAS,
-            sign_mask: Self::SIGN_MASK,
-            sig_mask: Self::SIG_MASK,
-            exp_mask: Self::EXP_MASK,
-            implicit_bit: Self::IMPLICIT_BIT,
-            quiet_nan: Self::QUIET_NAN,
-        }
-    }
-}
-
 /// A float: a layout with arithmetic, each operation rounded once to nearest, ties to even.
 pub trait Width: Layout
     + Copy
@@ -202,64 +122,4 @@ pub trait Width: Layout
     /// The number of a pattern; each NaN's pattern gives NaN.
     fn from_pattern(bits: Self::Int) -> Self
         ensures { λ r. ⌜ val r ≡ Ieee.ofBits fmt (Int·Int .nat bits) ⌝ };
-}
-
-pub impl Width for f32 as F32Width {
-    ghost fmt = { binary32 };
-
-    ghost val = { λ x. x };
-
-    fn less_than(self, other: f32) -> bool {
-        self < other
-    }
-
-    fn equals(self, other: f32) -> bool {
-        self == other
-    }
-
-    fn is_nan(self) -> bool {
-        self.is_nan()
-    }
-
-    fn pattern(self) -> Option<u32> {
-        if self.is_nan() {
-            None
-        } else {
-            Some(self.to_bits())
-        }
-    }
-
-    fn from_pattern(bits: u32) -> f32 {
-        f32_from_bits_with_nan(bits)
-    }
-}
-
-pub impl Width for f64 as F64Width {
-    ghost fmt = { binary64 };
-
-    ghost val = { λ x. x };
-
-    fn less_than(self, other: f64) -> bool {
-        self < other
-    }
-
-    fn equals(self, other: f64) -> bool {
-        self == other
-    }
-
-    fn is_nan(self) -> bool {
-        self.is_nan()
-    }
-
-    fn pattern(self) -> Option<u64> {
-        if self.is_nan() {
-            None
-        } else {
-            Some(self.to_bits())
-        }
-    }
-
-    fn from_pattern(bits: u64) -> f64 {
-        f64_from_bits_with_nan(bits)
-    }
 }

@@ -1,3 +1,4 @@
+use Rattle.rootlaws.proofs.Floats.{one-root}
 use Rattle.root.proofs.Rows.{known-rows, told-rows}
 use Rattle.root.proofs.known.known_roots.Needs as need
 
@@ -10,4 +11,4 @@ returns g c =
     let e = c .narrow-is .ensures (t .1 .1 .1 .0) in
     let f = c .narrow-is-2 .ensures (t .1 .1 .1 .1 .0) in
     let h = c .wide-is-4 .ensures (t .1 .1 .1 .1 .1 .0) in
-    record { rows = known-rows; come = simp (a, b, d, e, f, h) }
+    record { rows = known-rows; one = one-root; come = simp (a, b, d, e, f, h) }

@@ -1,6 +1,0 @@
-use mathlib.Core.Path.{sym}
-use Rattle.width.proofs.Shifts.{left-out}
-use Rattle.width.proofs.int_traits.U32Int.shl.Needs as need
-
-pub returns-else-by-lt32 : need.returns-else-by-lt32
-returns-else-by-lt32 c = sym (left-out 32 (c .args .self) (c .args .by) (c .if-by-lt32 .left))

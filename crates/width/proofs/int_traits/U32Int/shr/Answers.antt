@@ -1,7 +1,0 @@
-use mathlib.Core.Path.{sym}
-use native.Mathlib.Omega.{arith}
-use Rattle.width.proofs.Shifts.{right-out}
-use Rattle.width.proofs.int_traits.U32Int.shr.Needs as need
-
-pub returns-else-by-lt32 : need.returns-else-by-lt32
-returns-else-by-lt32 c = sym (right-out 32 (c .args .self) (c .args .by) (omega arith) (c .if-by-lt32 .left))
