@@ -1,2 +1,3 @@
 pub mod Field
+pub mod Pair
 pub mod Lines

@@ -2,12 +2,12 @@
 use crate::refusal::Refusal;
 use crate::sides::Sides;
 ghost use mathlib.Core.Path.{_≡_};
-ghost use Prim.Native.Nat.{ℕ, _+_, _*_, _≤_, _<_, min};
+ghost use Prim.Native.Nat.{_+_, _*_, _≤_, _<_, min};
 ghost use Rattle.std.specs.Iters.{folded};
 ghost use Rattle.std.specs.Results.{Cases};
-ghost use Rattle.std.specs.declared.option.Option.the-variants.{Some, None};
 ghost use Rattle.field.specs.Field.{longest};
-ghost use Rattle.field.specs.Lines.{Small, afterBlank, afterDigit, afterByte, read, faultIn};
+ghost use Rattle.field.specs.Lines.{Small, afterBlank, afterDigit, afterByte, read};
+ghost use Rattle.field.specs.Pair.{Writes, Refused};
 
 /// How far a line has been read, with the numbers so far.
 #[derive(Clone, Copy)]
@@ -77,12 +77,22 @@ fn reading_of(line: &[u8]) -> Reading
     reading
 }
 
-/// The sides that a line gives.
-pub fn sides_of(line: &[u8]) -> Result<Sides, Refusal>
-    ensures { λ r. ⌜ Cases r (λ s. (read (now (line .entry)) ≡ Some (s .length, s .breadth)) × (faultIn (read (now (line .entry))) ≡ None)) (λ e. faultIn (read (now (line .entry))) ≡ Some e) ⌝ }
+// The two numbers in a line.
+fn pair_in(line: &[u8]) -> Option<(u64, u64)>
+    ensures { λ r. ⌜ r ≡ read (now (line .entry)) ⌝ }
 {
     match reading_of(line) {
-        Reading::Second(a, b) | Reading::After(a, b) => Sides::new(a, b),
-        _ => Err(Refusal::NotPair),
+        Reading::Second(a, b) | Reading::After(a, b) => Some((a, b)),
+        _ => None,
+    }
+}
+
+/// The sides that a line gives.
+pub fn sides_of(line: &[u8]) -> Result<Sides, Refusal>
+    ensures { λ r. ⌜ Cases r (λ s. Writes (now (line .entry)) (s .length) (s .breadth)) (λ e. Refused (now (line .entry)) e) ⌝ }
+{
+    match pair_in(line) {
+        Some((a, b)) => Sides::new(a, b),
+        None => Err(Refusal::NotPair),
     }
 }
