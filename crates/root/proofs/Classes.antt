@@ -3,8 +3,11 @@ use Prim.Native.Nat.{ℕ, zero, suc, _+_, _*_, _-_, _/_, _%_, _^_, _≤_, _<_}
 use mathlib.Core.Path.{_≡_, refl, sym, ap, ap₂, subst, _∙_}
 use native.Mathlib.Omega.{arith}
 use native.Mathlib.Nat.{mod-eq-of-lt, mod-lt, zero-mod, div-add-mod, mul-add-mod-self-left, pow-succ', mul-le-mul-left, mul-le-mul-right}
+use mathlib.Core.Bool.{Bool, true, false, _&&_, cond}
 use lib.Bits.{bitAnd, bitOr}
+use lib.Dec.{ltb}
 use Rattle.std.proofs.shelf.Bits.{pow-pos, pow-add}
+use Rattle.std.proofs.shelf.Tests.{lt-ltb, le-ltb}
 use Rattle.width.specs.Shape.{Shape, Sound, width, bias, sign, infinity, quiet}
 use Rattle.rootlaws.specs.Roots.{Between, RootBits, target}
 use Rattle.rootlaws.specs.Split.{expOf, sigOf, wordOf, joined, lift}
@@ -12,9 +15,11 @@ use Rattle.rootlaws.specs.Whole.{Nearest}
 use Rattle.rootlaws.proofs.Join.{together}
 use Rattle.rootlaws.proofs.Sizes.{sign-range}
 use Rattle.rootlaws.proofs.Split.{sig-range, word-digits, exp-small, root-between, root-finite}
+use Rattle.root.specs.Status.{statusOf}
+use Rattle.root.specs.declared.env.Status.the-variants.{Ok, Invalid}
 
 -- the infinity's pattern has a clear sign
-infinity-clear : (S : Shape) → infinity S < sign S
+pub infinity-clear : (S : Shape) → infinity S < sign S
 infinity-clear S =
     let a = ap (λ y. 2 ^ y) (order (S .sig) (S .half)) ∙ pow-add 2 (S .sig) (suc (S .half)) ∙ ap (λ y. 2 ^ S .sig * y) (pow-succ' 2 (S .half)) in
     below (2 ^ S .sig) (2 ^ S .half) (sign S) (pow-pos (S .sig)) (pow-pos (S .half)) a
@@ -45,6 +50,24 @@ doubled S b bits bi =
     twice c q r e = omega arith
 
 module _ (S : Shape) (b bits : ℕ) (bi : bits ≡ width S) where
+  -- the status of each class
+  pub status-ok : b ≤ infinity S → statusOf S b ≡ Ok
+  status-ok h = rw (le-ltb (infinity S) b h) (no-and (ltb 0 (b % sign S)))
+    where
+      no-and : (t : Bool) → cond (t && false) Invalid Ok ≡ Ok
+      no-and true = refl
+      no-and false = refl
+
+  pub status-zero : b * 2 % 2 ^ bits ≡ 0 → statusOf S b ≡ Ok
+  status-zero h = let z : b % sign S ≡ 0 = let d = doubled S b bits bi in omega arith in rw z
+
+  pub status-invalid : (b * 2 % 2 ^ bits ≡ 0 → ⊥) → infinity S < b → statusOf S b ≡ Invalid
+  status-invalid n g = rw (lt-ltb 0 (b % sign S) (some (b % sign S) refl), lt-ltb (infinity S) b g)
+    where
+      some : (k : ℕ) → k ≡ b % sign S → 0 < k
+      some zero e = absurd (n (doubled S b bits bi ∙ ap (λ y. 2 * y) (sym e)))
+      some (suc k) e = omega arith
+
   clear : b < infinity S → b % sign S ≡ b
   clear h = let i = infinity-clear S in mod-eq-of-lt {n = b} {m = sign S} (omega arith)
 
@@ -120,27 +143,31 @@ module _ (S : Shape) (b bits : ℕ) (bi : bits ≡ width S) where
       over : infinity S < b → ⊥
       over g = omega arith
 
+-- the exponent of the root fits its place
+pub exp-fits : (S : Shape) → Sound S → (ix : ℕ) → ix < infinity S → expOf S ix / 2 * 2 ^ S .sig < 2 ^ width S
+exp-fits S ok ix l =
+    let e = exp-small S ok ix l in
+    let i = infinity-clear S in
+    let w = sign-range S in
+    let b : expOf S ix / 2 ≤ 2 * bias S + 1 = omega arith in
+    let t = mul-le-mul-right (2 ^ S .sig) b in
+    omega arith
+
 -- the fields put together
 module _ (S : Shape) (ok : Sound S) (ix : ℕ) (z : 0 < ix) (l : ix < infinity S) (bits : ℕ) (bi : bits ≡ width S) (m : ℕ)
     (near : Nearest (wordOf S (expOf S ix) (sigOf S ix) * 2 ^ lift S) m) where
-  exp-fits : expOf S ix / 2 * 2 ^ S .sig < 2 ^ width S
-  exp-fits =
-      let e = exp-small S ok ix l in
-      let i = infinity-clear S in
-      let w = sign-range S in
-      let b : expOf S ix / 2 ≤ 2 * bias S + 1 = omega arith in
-      let t = mul-le-mul-right (2 ^ S .sig) b in
-      omega arith
+  -- the stored bits of the root, beside its exponent
+  pub joined-at : (mask e : ℕ) → mask ≡ 2 ^ S .sig - 1 → e ≡ expOf S ix / 2 * 2 ^ S .sig → bitOr (bitAnd m mask) e ≡ joined S (expOf S ix / 2) m
+  joined-at mask e mi ei =
+      let r = sig-range S ix z (ok .deep) in
+      let d = word-digits S (sigOf S ix) (r .0) (r .1) ok m (expOf S ix) near in
+      ap₂ (λ x y. bitOr (bitAnd m x) y) mi ei ∙ together (S .sig) (expOf S ix / 2) m (d .0) (d .1)
 
   pub joined-is : (mask sb : ℕ) → mask ≡ 2 ^ S .sig - 1 → sb ≡ S .sig → bitOr (bitAnd m mask) (expOf S ix / 2 % 2 ^ bits * 2 ^ sb % 2 ^ bits) ≡ joined S (expOf S ix / 2) m
   joined-is mask sb mi si =
-      let r = sig-range S ix z (ok .deep) in
-      let d = word-digits S (sigOf S ix) (r .0) (r .1) ok m (expOf S ix) near in
-      let e = exp-fits in
-      let q = pow-pos (S .sig) in
-      let a : expOf S ix / 2 % 2 ^ bits ≡ expOf S ix / 2 = ap (λ x. expOf S ix / 2 % 2 ^ x) bi ∙ mod-eq-of-lt (small (expOf S ix / 2) (2 ^ S .sig) q e) in
-      let c : expOf S ix / 2 % 2 ^ bits * 2 ^ sb % 2 ^ bits ≡ expOf S ix / 2 * 2 ^ S .sig = ap₂ (λ x y. x * 2 ^ y % 2 ^ bits) a si ∙ ap (λ x. expOf S ix / 2 * 2 ^ S .sig % 2 ^ x) bi ∙ mod-eq-of-lt e in
-      ap₂ (λ x y. bitOr (bitAnd m x) y) mi c ∙ together (S .sig) (expOf S ix / 2) m (d .0) (d .1)
+      let e = exp-fits S ok ix l in
+      let a : expOf S ix / 2 % 2 ^ bits ≡ expOf S ix / 2 = ap (λ x. expOf S ix / 2 % 2 ^ x) bi ∙ mod-eq-of-lt (small (expOf S ix / 2) (2 ^ S .sig) (pow-pos (S .sig)) e) in
+      joined-at mask _ mi (ap₂ (λ x y. x * 2 ^ y % 2 ^ bits) a si ∙ ap (λ x. expOf S ix / 2 * 2 ^ S .sig % 2 ^ x) bi ∙ mod-eq-of-lt e)
     where
       small : (e Q : ℕ) → 0 < Q → e * Q < 2 ^ width S → e < 2 ^ width S
       small e Q q h = omega (arith, mul-le-mul-left e q)

@@ -3,3 +3,5 @@ pub mod Normal
 pub mod Drawn
 pub mod Classes
 pub mod Rows
+pub mod Turns
+pub mod Ported

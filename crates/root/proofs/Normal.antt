@@ -46,7 +46,7 @@ module _ (S : Shape) (ok : Sound S) (ix : ℕ) (z : 0 < ix) (bits : ℕ) (bi : b
     zeros : lz ≡ leadingZeros (width S) ix
     zeros = li ∙ ap (λ y. leadingZeros y ix) bi
 
-    shift-is : lz - eb ≡ shiftOf S ix
+    pub shift-is : lz - eb ≡ shiftOf S ix
     shift-is = ap₂ (λ x y. x - y) zeros ei
 
     pub zeros-enough : eb ≤ lz

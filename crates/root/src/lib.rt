@@ -1,4 +1,7 @@
 // Square roots: the nearest root of every float, and the units that are asked for roots.
+pub mod env;
+pub mod goldschmidt;
 pub mod known;
 pub mod longhand;
+pub mod sqrt;
 pub mod unit;

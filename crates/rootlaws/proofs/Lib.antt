@@ -6,3 +6,11 @@ pub mod Longhand
 pub mod Join
 pub mod Floats
 pub mod Sizes
+pub mod Start
+pub mod Round
+pub mod Last
+pub mod Chain
+pub mod Layouts
+pub mod Bits
+pub mod Fields
+pub mod Plans

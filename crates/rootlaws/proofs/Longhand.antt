@@ -151,7 +151,7 @@ module _ (V W M j root rem word : ℕ) (i : W ≡ 4 * V) (v : 0 < V) (room : 8 *
       let k = held-left V M j root rem word v h (omega arith) in
       subst (λ x. Held V M (suc j) x d w) (sym root-is) (subst (λ x. Held V M (suc j) (2 * root) x w) (sym a) (subst (λ x. Held V M (suc j) (2 * root) (4 * rem + word / V) x) (sym word-is) k))
 
-  pub drawn-taken : t ≤ d → (r' d' : ℕ) → r' ≡ (r + 1 % W) % W → d' ≡ (d + (W - t)) % W → Held V M (suc j) r' d' w
+  pub drawn-taken : t ≤ d → (r' d' : ℕ) → r' ≡ (r + 1 % W) % W → d' ≡ (d + W - t) % W → Held V M (suc j) r' d' w
   drawn-taken g r' d' r'i d'i =
       let a = drawn-is in
       let b = taken-is in
@@ -162,7 +162,7 @@ module _ (V W M j root rem word : ℕ) (i : W ≡ 4 * V) (v : 0 < V) (room : 8 *
       let o = mod-eq-of-lt {n = 1} {m = W} (omega arith) in
       let x : r' ≡ 2 * root + 1 = r'i ∙ ap₂ (λ y z. (y + z) % W) c o ∙ mod-eq-of-lt {n = 2 * root + 1} {m = W} (omega arith) in
       let y : d' ≡ 4 * rem + word / V - (4 * root + 1) =
-      let e : d + (W - t) ≡ W + (4 * rem + word / V - (4 * root + 1)) = omega arith in
+      let e : d + W - t ≡ W + (4 * rem + word / V - (4 * root + 1)) = omega arith in
       d'i ∙ ap (λ z. z % W) e ∙ add-mod-left W (4 * rem + word / V - (4 * root + 1)) ∙ mod-eq-of-lt {n = 4 * rem + word / V - (4 * root + 1)} {m = W} (omega arith) in
       let k = held-taken V M j root rem word v h (omega arith) in
       subst (λ z. Held V M (suc j) z d' w) (sym x)

@@ -2,3 +2,8 @@ pub mod Whole
 pub mod Split
 pub mod Longhand
 pub mod Roots
+pub mod Words
+pub mod Gold
+pub mod Table
+pub mod Layouts
+pub mod Plan

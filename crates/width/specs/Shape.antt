@@ -38,8 +38,10 @@ quiet S = infinity S + 2 ^ (S .sig - 1)
 abbrev pub reading : ℕ → ℕ → ℕ
 reading Q n = cond (ltb n Q) n ((Q + n % Q) * 2 ^ (n / Q - 1))
 
--- What a layout must satisfy: the root of its least number is normal, and its exponents are numbers of 32 bits.
+-- What a layout must satisfy: the root of its least number is normal, its exponents are numbers of 32 bits, and the table of the root can be
+-- read at six stored bits.
 pub record Sound (S : Shape) : Type 0 where
   pub wide : S .half ≤ S .sig
   pub deep : S .sig + 3 ≤ bias S
   pub few : S .half ≤ 29
+  pub six : 6 ≤ S .sig

@@ -1,4 +1,5 @@
 // The source's `Float` as two interfaces: what a pattern's fields are, and arithmetic.
+use crate::int_traits::HInt;
 use crate::int_traits::Int;
 use std::ops::Add;
 use std::ops::Div;
@@ -31,7 +32,7 @@ pub struct Fields<I> {
 /// How a number is laid out in its pattern. It has no arithmetic, so that patterns for which there
 /// is none can have a layout too.
 pub trait Layout {
-    type Int: Int;
+    type Int: HInt;
 
     const BITS: u32;
 

@@ -2,19 +2,27 @@
 use crate::float_traits::Fields;
 use crate::float_traits::Layout;
 use crate::float_traits::Width;
+use crate::int_traits::HInt;
 use crate::int_traits::Int;
 use std::num::f32_from_bits_with_nan;
 ghost use mathlib.Core.Path.{_≡_};
-ghost use Prim.Native.Nat.{ℕ};
+ghost use Prim.Native.Nat.{ℕ, _^_};
 ghost use lib.Ieee.{binary32, nan};
 ghost use Rattle.std.specs.Options.{Cases as BySome};
 ghost use Rattle.width.specs.Pattern.{PatternOf};
+ghost use Rattle.width.specs.Product.{exact};
 ghost use Rattle.width.specs.Shape.{shapeOf};
 
 pub impl Int for u32 as U32Int {
+    const BITS: u32 = 32;
+
     ghost nat = { λ x. x };
 
     ghost bits = { 32 };
+
+    fn size() -> u32 {
+        Self::BITS
+    }
 
     fn from_u32(x: u32) -> u32 {
         x
@@ -30,6 +38,10 @@ pub impl Int for u32 as U32Int {
 
     fn shr(self, by: u32) -> u32 {
         if by < 32 { self >> by } else { 0 }
+    }
+
+    fn not(self) -> u32 {
+        !self
     }
 
     fn bitand(self, other: u32) -> u32 {
@@ -48,6 +60,10 @@ pub impl Int for u32 as U32Int {
         self.wrapping_sub(other)
     }
 
+    fn wrapping_mul(self, other: u32) -> u32 {
+        self.wrapping_mul(other)
+    }
+
     fn leading_zeros(self) -> u32 {
         self.leading_zeros()
     }
@@ -58,6 +74,14 @@ pub impl Int for u32 as U32Int {
 
     fn eq(self, other: u32) -> bool {
         self == other
+    }
+}
+
+pub impl HInt for u32 as U32HInt {
+    ghost mulh = { exact (2 ^ 30) };
+
+    fn wmulh(self, other: u32) -> u32 {
+        ((self as u64 * other as u64) >> 32) as u32
     }
 }
 

@@ -2,19 +2,27 @@
 use crate::float_traits::Fields;
 use crate::float_traits::Layout;
 use crate::float_traits::Width;
+use crate::int_traits::HInt;
 use crate::int_traits::Int;
 use std::num::f64_from_bits_with_nan;
 ghost use mathlib.Core.Path.{_≡_};
-ghost use Prim.Native.Nat.{ℕ};
+ghost use Prim.Native.Nat.{ℕ, _^_};
 ghost use lib.Ieee.{binary64, nan};
 ghost use Rattle.std.specs.Options.{Cases as BySome};
 ghost use Rattle.width.specs.Pattern.{PatternOf};
+ghost use Rattle.width.specs.Product.{halves};
 ghost use Rattle.width.specs.Shape.{shapeOf};
 
 pub impl Int for u64 as U64Int {
+    const BITS: u32 = 64;
+
     ghost nat = { λ x. x };
 
     ghost bits = { 64 };
+
+    fn size() -> u32 {
+        Self::BITS
+    }
 
     fn from_u32(x: u32) -> u64 {
         x as u64
@@ -30,6 +38,10 @@ pub impl Int for u64 as U64Int {
 
     fn shr(self, by: u32) -> u64 {
         if by < 64 { self >> by } else { 0 }
+    }
+
+    fn not(self) -> u64 {
+        !self
     }
 
     fn bitand(self, other: u64) -> u64 {
@@ -48,6 +60,10 @@ pub impl Int for u64 as U64Int {
         self.wrapping_sub(other)
     }
 
+    fn wrapping_mul(self, other: u64) -> u64 {
+        self.wrapping_mul(other)
+    }
+
     fn leading_zeros(self) -> u32 {
         self.leading_zeros()
     }
@@ -58,6 +74,16 @@ pub impl Int for u64 as U64Int {
 
     fn eq(self, other: u64) -> bool {
         self == other
+    }
+}
+
+pub impl HInt for u64 as U64HInt {
+    ghost mulh = { halves (2 ^ 32) };
+
+    fn wmulh(self, other: u64) -> u64 {
+        let (ah, al) = (self >> 32, self % 0x1_0000_0000);
+        let (bh, bl) = (other >> 32, other % 0x1_0000_0000);
+        ah * bh + ((ah * bl) >> 32) + ((al * bh) >> 32)
     }
 }
 

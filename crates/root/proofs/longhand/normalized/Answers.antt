@@ -32,7 +32,7 @@ add-result-else-lt g c =
     let b = bias-small S (g .L·Layout·met .sound) in
     let h = subst (λ x. x ≤ g .Int·Int .nat (c .args .ix)) (f .implicit-bit) (ltb-false _ _ (sym (c .lt .ensures) ∙ c .if-lt .left)) in
     let e = field-small S (g .L·Layout·met .sound) _ (c .pre .0) _ (g .L·Layout·met .whole) h (c .pre .1) in
-    let q = c .low-u32 .ensures ∙ ap (λ x. x % 2 ^ 32) (c .shr .ensures ∙ ap (λ x. g .Int·Int .nat (c .args .ix) / 2 ^ x) (f .sig-bits)) in
+    let q = c .low-u32 .ensures ∙ ap (λ x. x % 2 ^ 32) (c .shr .ensures .value ∙ ap (λ x. g .Int·Int .nat (c .args .ix) / 2 ^ x) (f .sig-bits)) in
     let k = f .exp-bias in
     omega arith
 
@@ -47,5 +47,5 @@ returns-else-lt g c =
     let a = c .bitand .ensures in
     record {
       sig = c .bitor-sig .ensures ∙ ap (λ x. bitOr x (n (c .fields-f .result .«implicit_bit»))) a ∙ sig-large S ok _ (c .pre .0) _ whole h _ _ (f .sig-mask) (f .implicit-bit);
-      exp = ap (λ x. x + c .fields-f .result .«exp_bias») (c .low-u32 .ensures ∙ ap (λ x. x % 2 ^ 32) (c .shr .ensures)) ∙ exp-large-is S ok _ (c .pre .0) _ whole h (c .pre .1) _ _ (f .sig-bits) (f .exp-bias);
+      exp = ap (λ x. x + c .fields-f .result .«exp_bias») (c .low-u32 .ensures ∙ ap (λ x. x % 2 ^ 32) (c .shr .ensures .value)) ∙ exp-large-is S ok _ (c .pre .0) _ whole h (c .pre .1) _ _ (f .sig-bits) (f .exp-bias);
     }
