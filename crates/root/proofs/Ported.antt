@@ -103,20 +103,18 @@ module _ (S : Shape) (ok : Sound S) (bits : ℕ) (bi : bits ≡ width S) where
       under : (V L Z : ℕ) → V * L ≡ Z → 0 < L → M < 4 * V → M * L < 4 * Z
       under V L Z e p h = omega (arith, mul-le-mul-right L h)
 
-  pub decided-nearest : (M m shift d0 d1 r : ℕ) → M < 4 * 2 ^ (S .sig + S .half) → Kept (M * 2 ^ lift S) m → shift ≡ lift S
-      → d0 ≡ (M * 2 ^ shift % 2 ^ bits + 2 ^ bits - m * m % 2 ^ bits) % 2 ^ bits → d1 ≡ (m + 2 ^ bits - d0) % 2 ^ bits → r ≡ (m + d1 / 2 ^ (bits - 1)) % 2 ^ bits
-      → Nearest (M * 2 ^ lift S) r
-  decided-nearest M m shift d0 d1 r u k si i0 i1 ri =
+  pub decided-nearest : (M m r : ℕ) → M < 4 * 2 ^ (S .sig + S .half) → Kept (M * 2 ^ lift S) m
+      → r ≡ (m + (m + 2 ^ bits - (M * 2 ^ lift S % 2 ^ bits + 2 ^ bits - m * m % 2 ^ bits) % 2 ^ bits) % 2 ^ bits / 2 ^ (bits - 1)) % 2 ^ bits → Nearest (M * 2 ^ lift S) r
+  decided-nearest M m r u k ri =
       let X = M * 2 ^ lift S in
       let H = 2 ^ (bits - 1) in
       let t = twice in
       let q = room in
       let b = kept-below X m (2 ^ S .sig) k (target-small M u) in
-      let a0 : d0 ≡ diff0 H X m = i0 ∙ ap (λ x. (M * 2 ^ x % 2 ^ bits + 2 ^ bits - m * m % 2 ^ bits) % 2 ^ bits) si ∙ ap (λ x. (X % x + x - m * m % x) % x) t in
-      let a1 : d1 ≡ diff1 H X m = i1 ∙ ap (λ x. (m + x - d0) % x) t ∙ ap (λ x. (m + 2 * H - x) % (2 * H)) a0 in
+      let a : (m + 2 ^ bits - (X % 2 ^ bits + 2 ^ bits - m * m % 2 ^ bits) % 2 ^ bits) % 2 ^ bits ≡ diff1 H X m = ap (λ x. (m + x - (X % x + x - m * m % x) % x) % x) t in
       let n = rounded H X m (pow-pos (bits - 1)) k (omega arith) in
       let s : diff1 H X m / H < 2 = div-below (diff1 H X m) H 2 (pow-pos (bits - 1)) (mod-lt (m + 2 * H - diff0 H X m) (positive H (pow-pos (bits - 1)))) in
-      let z : r ≡ m + diff1 H X m / H = ri ∙ ap (λ x. (m + x / H) % 2 ^ bits) a1 ∙ mod-eq-of-lt {n = m + diff1 H X m / H} {m = 2 ^ bits} (omega arith) in
+      let z : r ≡ m + diff1 H X m / H = ri ∙ ap (λ x. (m + x / H) % 2 ^ bits) a ∙ mod-eq-of-lt {n = m + diff1 H X m / H} {m = 2 ^ bits} (omega arith) in
       subst (λ x. Nearest X x) (sym z) n
     where
       positive : (H : ℕ) → 0 < H → 0 < 2 * H

@@ -7,7 +7,9 @@ use crate::env::FpResult;
 use crate::env::Status;
 use crate::goldschmidt::goldschmidt;
 use width::F32Layout;
+use width::F32Width;
 use width::F64Layout;
+use width::F64Width;
 use width::HInt;
 use width::Int;
 use width::Layout;
@@ -20,7 +22,7 @@ ghost use mathlib.Core.Path.{_≡_};
 ghost use mathlib.Core.Bool.{not, _&&_};
 ghost use Prim.Native.Nat.{ℕ, suc, _+_, _-_, _*_, _/_, _%_, _^_, _<_, _≤_};
 ghost use lib.Dec.{leb, ltb};
-ghost use lib.Ieee.{ofBits};
+ghost use lib.Ieee.{binary32, binary64, ofBits};
 ghost use lib.ListN.{getD};
 ghost use Rattle.width.specs.Shape.{Shape, shapeOf, bias, infinity, width as widthOf};
 ghost use Rattle.rootlaws.specs.Plan.{Plan, Keeps, keptBy};
@@ -281,16 +283,24 @@ fn kept<F: SqrtHelper>(ix: F::Int, m_u2: F::Int) -> F::Int
     s_u2.shr(F::fields().exp_bits - 2)
 }
 
-// The last step: `m` or one more, by what the square of `m` leaves. The sign bit of `d1`, which is
-// `m^2 + m - 2^(2p) m_u2`, says whether the root lies past `m + 1/2`.
+// The sign bit of `m^2 + m - 2^shift m_u2`, in words that wrap: whether the root lies past
+// `m + 1/2`.
+fn past_half<I: Int>(m_u2: I, m: I, shift: u32) -> I
+    ensures { λ r. ⌜ I·Int .nat r ≡ (I·Int .nat m + 2 ^ I·Int .bits - (I·Int .nat «m_u2» * 2 ^ shift % 2 ^ I·Int .bits + 2 ^ I·Int .bits - I·Int .nat m * I·Int .nat m % 2 ^ I·Int .bits) % 2 ^ I·Int .bits) % 2 ^ I·Int .bits / 2 ^ (I·Int .bits - 1) ⌝ }
+{
+    let d0 = m_u2.shl(shift).wrapping_sub(m.wrapping_mul(m));
+    let d1 = m.wrapping_sub(d0);
+    d1.shr(I::size() - 1)
+}
+
+// The last step: `m`, or one more.
 fn decided<F: SqrtHelper>(m_u2: F::Int, m: F::Int) -> F::Int
     ensures { λ r. ⌜ (Int·Int .nat «m_u2» < 4 * 2 ^ (F·Layout .shape .sig + F·Layout .shape .half) → Kept (Int·Int .nat «m_u2» * 2 ^ lift (F·Layout .shape)) (Int·Int .nat m) → Nearest (Int·Int .nat «m_u2» * 2 ^ lift (F·Layout .shape)) (Int·Int .nat r)) ⌝ }
 {
     let f = F::fields();
+    // `m_u2` has `BITS - 2` places after its point, and the square of `m` has `2 * SIG_BITS`.
     let shift = 2 * f.sig_bits - (f.bits - 2);
-    let d0 = m_u2.shl(shift).wrapping_sub(m.wrapping_mul(m));
-    let d1 = m.wrapping_sub(d0);
-    m.wrapping_add(d1.shr(f.bits - 1))
+    m.wrapping_add(past_half(m_u2, m, shift))
 }
 
 // Reduces the argument such that `x = 4^e * m`, with the exponent in place: the word `m_u2`, and
@@ -422,12 +432,26 @@ fn root_of<W: Width + SqrtHelper>(ix: W::Int) -> W
     W::from_pattern(sqrt_round::<W>(ix).val)
 }
 
-/// The nearest root of a float.
-pub fn sqrt_of<W: Width + SqrtHelper>(x: W) -> W
+// NaN is told before its pattern is read.
+fn float_root<W: Width + SqrtHelper>(x: W) -> W
     ensures { λ r. ⌜ NearestRoot (W·Width .fmt) (W·Width .val x) (W·Width .val r) ⌝ }
 {
     match x.pattern() {
         None => x,
         Some(ix) => root_of::<W>(ix),
     }
+}
+
+/// The square root of `x` (f64).
+pub fn sqrt(x: f64) -> f64
+    ensures { λ r. ⌜ NearestRoot binary64 x r ⌝ }
+{
+    float_root::<f64>(x)
+}
+
+/// The square root of `x` (f32).
+pub fn sqrtf(x: f32) -> f32
+    ensures { λ r. ⌜ NearestRoot binary32 x r ⌝ }
+{
+    float_root::<f32>(x)
 }

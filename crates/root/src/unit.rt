@@ -1,5 +1,7 @@
 // A root unit: what is asked for roots, and counts how often.
 use crate::longhand::longhand_root;
+use crate::sqrt::sqrt;
+use crate::sqrt::sqrtf;
 use width::F32Width;
 use width::F64Width;
 ghost use mathlib.Core.Path.{_≡_};
@@ -25,41 +27,97 @@ pub trait RootUnit {
         ensures { λ r. ⌜ r ≡ count (now (self .entry)) ⌝ };
 }
 
+/// A count of roots asked.
+#[derive(Clone, Copy)]
+struct Asked {
+    roots: u32,
+}
+
+impl Asked {
+    fn none() -> Asked
+        ensures { λ r. ⌜ r .roots ≡ 0 ⌝ }
+    {
+        Asked { roots: 0 }
+    }
+
+    fn one_more(&mut self)
+        ensures { λ _. ⌜ now (self .exit) .roots ≡ raised (now (self .entry) .roots) ⌝ }
+    {
+        let Asked { roots } = self;
+        *roots = roots.saturating_add(1);
+    }
+
+    fn read(&self) -> u32
+        ensures { λ r. ⌜ r ≡ now (self .entry) .roots ⌝ }
+    {
+        self.roots
+    }
+}
+
 /// The unit that draws its roots by longhand.
 #[derive(Drop)]
 pub struct Longhand {
-    roots: u32,
+    count: Asked,
 }
 
 impl Longhand {
     pub fn new() -> Longhand
-        ensures { λ r. ⌜ r .roots ≡ 0 ⌝ }
+        ensures { λ r. ⌜ r .count .roots ≡ 0 ⌝ }
     {
-        Longhand { roots: 0 }
-    }
-
-    fn count_one(&mut self)
-        ensures { λ _. ⌜ now (self .exit) .roots ≡ raised (now (self .entry) .roots) ⌝ }
-    {
-        let Longhand { roots } = self;
-        *roots = roots.saturating_add(1);
+        Longhand {
+            count: Asked::none(),
+        }
     }
 }
 
 pub impl RootUnit for Longhand as LonghandUnit {
-    ghost count = { λ s. s .roots };
+    ghost count = { λ s. s .count .roots };
 
     fn wide_root(&mut self, v: f64) -> f64 {
-        self.count_one();
+        self.count.one_more();
         longhand_root(v)
     }
 
     fn narrow_root(&mut self, v: f32) -> f32 {
-        self.count_one();
+        self.count.one_more();
         longhand_root(v)
     }
 
     fn asked(&self) -> u32 {
-        self.roots
+        self.count.read()
+    }
+}
+
+/// The unit that takes its roots by the ported routine.
+#[derive(Drop)]
+pub struct Ported {
+    count: Asked,
+}
+
+impl Ported {
+    pub fn new() -> Ported
+        ensures { λ r. ⌜ r .count .roots ≡ 0 ⌝ }
+    {
+        Ported {
+            count: Asked::none(),
+        }
+    }
+}
+
+pub impl RootUnit for Ported as PortedUnit {
+    ghost count = { λ s. s .count .roots };
+
+    fn wide_root(&mut self, v: f64) -> f64 {
+        self.count.one_more();
+        sqrt(v)
+    }
+
+    fn narrow_root(&mut self, v: f32) -> f32 {
+        self.count.one_more();
+        sqrtf(v)
+    }
+
+    fn asked(&self) -> u32 {
+        self.count.read()
     }
 }

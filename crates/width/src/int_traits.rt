@@ -8,15 +8,13 @@ ghost use lib.Dec.{eqb, ltb};
 /// An unsigned integer: a number below 2^bits. Nothing here panics: a sum, a difference and a
 /// product wrap, and a shift by `bits` or more leaves nothing.
 pub trait Int: Copy {
-    const BITS: u32;
-
     ghost nat: { Self → ℕ };
 
     ghost bits: { ℕ };
 
     law wide: { 16 ≤ bits };
 
-    /// `BITS`, for code that is generic in the integer.
+    /// How many bits it has.
     fn size() -> u32
         ensures { λ r. ⌜ r ≡ bits ⌝ };
 

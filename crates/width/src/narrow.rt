@@ -14,14 +14,12 @@ ghost use Rattle.width.specs.Product.{exact};
 ghost use Rattle.width.specs.Shape.{shapeOf};
 
 pub impl Int for u32 as U32Int {
-    const BITS: u32 = 32;
-
     ghost nat = { λ x. x };
 
     ghost bits = { 32 };
 
     fn size() -> u32 {
-        Self::BITS
+        u32::BITS
     }
 
     fn from_u32(x: u32) -> u32 {

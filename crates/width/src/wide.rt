@@ -14,14 +14,12 @@ ghost use Rattle.width.specs.Product.{halves};
 ghost use Rattle.width.specs.Shape.{shapeOf};
 
 pub impl Int for u64 as U64Int {
-    const BITS: u32 = 64;
-
     ghost nat = { λ x. x };
 
     ghost bits = { 64 };
 
     fn size() -> u32 {
-        Self::BITS
+        u64::BITS
     }
 
     fn from_u32(x: u32) -> u64 {
