@@ -19,7 +19,7 @@ use width::U64HInt;
 use width::U64Int;
 use width::Width;
 ghost use mathlib.Core.Path.{_≡_};
-ghost use mathlib.Core.Bool.{not, _&&_};
+ghost use mathlib.Core.Bool.{true, false, not, _&&_};
 ghost use Prim.Native.Nat.{ℕ, suc, _+_, _-_, _*_, _/_, _%_, _^_, _<_, _≤_};
 ghost use lib.Dec.{leb, ltb};
 ghost use lib.Ieee.{binary32, binary64, ofBits};
@@ -383,44 +383,64 @@ fn special_case<F: SqrtHelper>(ix: F::Int) -> bool
     }
 }
 
+// The root of what is no positive normal number.
+fn special_root<F: SqrtHelper>(ix: F::Int) -> FpResult<F::Int>
+    requires { ⌜ not (leb (2 ^ F·Layout .shape .sig) (Int·Int .nat ix) && ltb (Int·Int .nat ix) (infinity (F·Layout .shape))) ≡ true ⌝ }
+    ensures root { λ r. ⌜ RootBits (F·Layout .shape) (Int·Int .nat ix) (Int·Int .nat (r .val)) ⌝ }
+    ensures status { λ r. ⌜ r .status ≡ statusOf (F·Layout .shape) (Int·Int .nat ix) ⌝ }
+{
+    let f = F::fields();
+    // +/-0
+    if ix.shl(1).eq(F::Int::from_u32(0)) {
+        return FpResult {
+            val: ix,
+            status: Status::Ok,
+        };
+    }
+    // Positive infinity
+    if ix.eq(f.exp_mask) {
+        return FpResult {
+            val: ix,
+            status: Status::Ok,
+        };
+    }
+    // NaN or negative
+    if f.exp_mask.lt(ix) {
+        return FpResult {
+            val: f.quiet_nan,
+            status: Status::Invalid,
+        };
+    }
+    let (ix, top) = normalized::<F>(ix);
+    FpResult {
+        val: root_at::<F>(ix, top),
+        status: Status::Ok,
+    }
+}
+
+// The root of a positive normal number, whose exponent field is `top`.
+fn normal_root<F: SqrtHelper>(ix: F::Int, top: u32) -> FpResult<F::Int>
+    requires number { ⌜ not (leb (2 ^ F·Layout .shape .sig) (Int·Int .nat ix) && ltb (Int·Int .nat ix) (infinity (F·Layout .shape))) ≡ false ⌝ }
+    requires exponent { ⌜ top ≡ Int·Int .nat ix / 2 ^ F·Layout .shape .sig % 2 ^ 32 ⌝ }
+    ensures root { λ r. ⌜ RootBits (F·Layout .shape) (Int·Int .nat ix) (Int·Int .nat (r .val)) ⌝ }
+    ensures status { λ r. ⌜ r .status ≡ statusOf (F·Layout .shape) (Int·Int .nat ix) ⌝ }
+{
+    FpResult {
+        val: root_at::<F>(ix, top),
+        status: Status::Ok,
+    }
+}
+
 /// The root of the number with the pattern `ix`, as a pattern, with its status.
 pub fn sqrt_round<F: SqrtHelper>(ix: F::Int) -> FpResult<F::Int>
     ensures root { λ r. ⌜ RootBits (F·Layout .shape) (Int·Int .nat ix) (Int·Int .nat (r .val)) ⌝ }
     ensures status { λ r. ⌜ r .status ≡ statusOf (F·Layout .shape) (Int·Int .nat ix) ⌝ }
 {
-    let f = F::fields();
-    let top = ix.shr(f.sig_bits).low_u32();
+    let top = ix.shr(F::fields().sig_bits).low_u32();
     if special_case::<F>(ix) {
-        // +/-0
-        if ix.shl(1).eq(F::Int::from_u32(0)) {
-            return FpResult {
-                val: ix,
-                status: Status::Ok,
-            };
-        }
-        // Positive infinity
-        if ix.eq(f.exp_mask) {
-            return FpResult {
-                val: ix,
-                status: Status::Ok,
-            };
-        }
-        // NaN or negative
-        if f.exp_mask.lt(ix) {
-            return FpResult {
-                val: f.quiet_nan,
-                status: Status::Invalid,
-            };
-        }
-        let (ix, top) = normalized::<F>(ix);
-        return FpResult {
-            val: root_at::<F>(ix, top),
-            status: Status::Ok,
-        };
-    }
-    FpResult {
-        val: root_at::<F>(ix, top),
-        status: Status::Ok,
+        special_root::<F>(ix)
+    } else {
+        normal_root::<F>(ix, top)
     }
 }
 

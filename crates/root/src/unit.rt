@@ -64,9 +64,8 @@ impl Longhand {
     pub fn new() -> Longhand
         ensures { λ r. ⌜ r .count .roots ≡ 0 ⌝ }
     {
-        Longhand {
-            count: Asked::none(),
-        }
+        let count = Asked::none();
+        Longhand { count }
     }
 }
 
@@ -98,9 +97,8 @@ impl Ported {
     pub fn new() -> Ported
         ensures { λ r. ⌜ r .count .roots ≡ 0 ⌝ }
     {
-        Ported {
-            count: Asked::none(),
-        }
+        let count = Asked::none();
+        Ported { count }
     }
 }
 

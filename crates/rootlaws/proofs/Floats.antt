@@ -266,22 +266,19 @@ module _ (f : Format) (s : Bool) (n r : ℕ) (u : n < top f) (h : Meets f (cond 
       subst (λ x. NearestRoot f x (ofBits f r)) (sym z) (ap (ofBits f) (h .of-zero (rest ∙ e)) ∙ z)
 
   of-number : 0 < n → n < ones f * hid f → NearestRoot f (ofBits f b) (ofBits f r)
-  of-number p l = go (ofBits f b) s refl (bits-value f s n l) h none
+  of-number p l = go (ofBits f b) s (bits-value f s n l) h none
     where
-      a : ℕ
-      a = reading (hid f) n
-
-      go : (x : Float) (t : Bool) → t ≡ s → HasValue x t (reading (hid f) n) (2 ^ low f) → Meets f (cond t (top f) 0 + n) r → (0 < n → ones f * hid f < cond t (top f) 0 + n → ofBits f r ≡ nan) → NearestRoot f x (ofBits f r)
-      go nan t q v m c = elim v [ ]
-      go (inf d) t q v m c = elim v [ ]
-      go (fin d zero e) t q v m c = absurd (no (reading (hid f) n) (reading-some (hid f) n (hid-pos f) p) (sym (v .1) ∙ ap (λ y. y * 2 ^ low f) (zero-mul (up e)) ∙ zero-mul (2 ^ low f)))
+      go : (x : Float) (t : Bool) → HasValue x t (reading (hid f) n) (2 ^ low f) → Meets f (cond t (top f) 0 + n) r → (0 < n → ones f * hid f < cond t (top f) 0 + n → ofBits f r ≡ nan) → NearestRoot f x (ofBits f r)
+      go nan t v m c = elim v [ ]
+      go (inf d) t v m c = elim v [ ]
+      go (fin d zero e) t v m c = absurd (no (reading (hid f) n) (reading-some (hid f) n (hid-pos f) p) (sym (v .1) ∙ ap (λ y. y * 2 ^ low f) (zero-mul (up e)) ∙ zero-mul (2 ^ low f)))
         where
           no : (a : ℕ) → 0 < a → a * down e ≡ 0 → ⊥
           no a q z = let y = mul-pos q (down-pos e) in omega arith
-      go (fin true (suc k) e) true q v m c = c p (omega (arith, small-rest f n l))
-      go (fin true (suc k) e) false q v m c = absurd (true≢false (v .0))
-      go (fin false (suc k) e) true q v m c = absurd (false≢true (v .0))
-      go (fin false (suc k) e) false q v m c =
+      go (fin true (suc k) e) true v m c = c p (omega (arith, small-rest f n l))
+      go (fin true (suc k) e) false v m c = absurd (true≢false (v .0))
+      go (fin false (suc k) e) true v m c = absurd (false≢true (v .0))
+      go (fin false (suc k) e) false v m c =
           let i = plus-none n in
           let w = value-units f (fin false (suc k) e) false (reading (hid f) n) v in
           let p' = subst (λ y. 0 < y) (sym i) p in
@@ -320,19 +317,18 @@ bits-root f b r u h =
 -- a positive finite float has a pattern below the infinity's
 finite-bits : (f : Format) (m : ℕ) (e : ℤ) → T (fits f (fin false m e)) → toBits f (fin false m e) < ones f * hid f
 unfolding isNan
-finite-bits f m e t = go (leb (top f) n) (n % top f) refl refl (mod-lt n (mul-pos (hid-pos f) (zero-lt-suc (ones f)))) (sign-and-rest (top f) n small)
+finite-bits f m e t =
+    let n = toBits f (fin false m e) in
+    go (leb (top f) n) (n % top f) refl (mod-lt n (mul-pos (hid-pos f) (zero-lt-suc (ones f)))) (sign-and-rest (top f) n small)
   where
-    n : ℕ
-    n = toBits f (fin false m e)
-
     small : toBits f (fin false m e) < 2 * top f
     small = toBits-lt f (fin false m e) t
 
     back : ofBits f (toBits f (fin false m e)) ≡ fin false m e
     back = ofBits-toBits f (fin false m e) t
 
-    go : (s : Bool) (k : ℕ) → leb (top f) (toBits f (fin false m e)) ≡ s → toBits f (fin false m e) % top f ≡ k → k < top f → cond s (top f) 0 + k ≡ toBits f (fin false m e) → toBits f (fin false m e) < ones f * hid f
-    go s k i j u q =
+    go : (s : Bool) (k : ℕ) → toBits f (fin false m e) % top f ≡ k → k < top f → cond s (top f) 0 + k ≡ toBits f (fin false m e) → toBits f (fin false m e) < ones f * hid f
+    go s k j u q =
         ways k (ones f * hid f) (toBits f (fin false m e) < ones f * hid f)
         (λ l. sound s l (subst (λ x. HasValue x s (reading (hid f) k) (2 ^ low f)) (ap (ofBits f) q ∙ back) (bits-value f s k l)) q)
         (λ g. ways (ones f * hid f) k (toBits f (fin false m e) < ones f * hid f)
@@ -369,9 +365,6 @@ halfway-bits f v (inf false) h = absurd (none (units f (after f (inf false))) (p
 halfway-bits f v (fin true m e) h = absurd (h .positive)
 halfway-bits f v (fin false m e) h = go (toBits f (fin false m e)) refl (finite-bits f m e (h .held)) (h .below) (h .above)
   where
-    here : Float
-    here = fin false m e
-
     go : (n : ℕ) → toBits f (fin false m e) ≡ n → n < ones f * hid f
         → (units f (ofBits f (toBits f (fin false m e) - 1)) + units f (fin false m e)) * (units f (ofBits f (toBits f (fin false m e) - 1)) + units f (fin false m e)) < 4 * (units f v * 2 ^ low f)
         → 4 * (units f v * 2 ^ low f) < (units f (fin false m e) + units f (ofBits f (suc (toBits f (fin false m e))))) * (units f (fin false m e) + units f (ofBits f (suc (toBits f (fin false m e)))))

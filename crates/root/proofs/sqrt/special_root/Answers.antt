@@ -1,12 +1,9 @@
-use Prim.Native.Nat.{_*_, _/_, _%_, _^_, _<_, _≤_}
-use mathlib.Core.Path.{_≡_, sym, ap, subst, _∙_}
-use borrow.Author.Tests.{eqb-true, eqb-false, ltb-true, ltb-false, leb-true}
-use native.Mathlib.Nat.{zero-mod, le-of-lt}
-use lib.Dec.{leb, ltb}
-use Rattle.width.specs.Shape.{infinity}
+use Prim.Native.Nat.{_*_, _%_, _^_, _<_, _≤_}
+use mathlib.Core.Path.{_≡_, sym, subst, _∙_}
+use borrow.Author.Tests.{eqb-true, eqb-false, ltb-true, ltb-false}
+use native.Mathlib.Nat.{zero-mod}
 use Rattle.root.proofs.Classes.{zero-root, none-root, status-ok, status-zero, status-invalid}
-use Rattle.root.proofs.Ported.{stored-normal, normal-lower, normal-upper}
-use Rattle.root.proofs.sqrt.sqrt_round.Needs as need
+use Rattle.root.proofs.sqrt.special_root.Needs as need
 
 pub returns-then-eq : need.returns-then-eq
 returns-then-eq g c =
@@ -22,18 +19,8 @@ returns-then-lt g c =
     let h = subst (λ x. x < g .Int·Int .nat (c .args .ix)) (f .exp-mask) (ltb-true _ _ (sym (c .lt .ensures) ∙ c .if-lt .taken)) in
     record { root = none-root S _ _ whole n h _ (f .quiet-nan); status = sym (status-invalid S _ _ whole n h) }
 
-pub returns-then-special-case : need.returns-then-special-case
-returns-then-special-case g c =
+pub returns : need.returns
+returns g c =
     let f = c .fields-f .ensures in
     let h = subst (λ x. g .Int·Int .nat (c .args .ix) ≤ x) (f .exp-mask) (ltb-false _ _ (sym (c .lt .ensures) ∙ c .if-lt .left)) in
     record { root = c .root-at .ensures _ (c .normalized-top .ensures); status = sym (status-ok (g .F·Layout .shape) _ _ (g .F·Layout·met .whole) h) }
-
-pub returns : need.returns
-returns g c =
-    let S = g .F·Layout .shape in
-    let x = g .Int·Int .nat (c .args .ix) in
-    let t = sym (c .special-case .ensures (c .shr .ensures .within)) ∙ c .if-special-case .left in
-    let l = leb-true _ _ (normal-lower (leb (2 ^ S .sig) x) (ltb x (infinity S)) t) in
-    let h = ltb-true _ _ (normal-upper (leb (2 ^ S .sig) x) (ltb x (infinity S)) t) in
-    let top = c .low-u32-top .ensures ∙ ap (λ y. y % 2 ^ 32) (c .shr .ensures .value ∙ ap (λ y. x / 2 ^ y) (c .fields-f .ensures .sig-bits)) in
-    record { root = c .root-at-2 .ensures x (stored-normal S (g .F·Layout·met .sound) x _ l h top); status = sym (status-ok S _ _ (g .F·Layout·met .whole) (le-of-lt h)) }
