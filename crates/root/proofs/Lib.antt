@@ -3,5 +3,6 @@ pub mod Normal
 pub mod Drawn
 pub mod Classes
 pub mod Rows
+pub mod Runs
 pub mod Turns
 pub mod Ported

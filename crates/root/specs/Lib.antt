@@ -1,3 +1,4 @@
 pub mod Count
 pub mod Known
+pub mod Runs
 pub mod Status

@@ -4,7 +4,9 @@ use std::num::f32_to_bits_with_nan;
 use std::num::f64_to_bits_with_nan;
 ghost use mathlib.Core.Path.{_≡_};
 ghost use mathlib.Core.Bool.{true};
-ghost use Rattle.root.specs.Count.{raised};
+ghost use lib.ListN.{length};
+ghost use Rattle.root.specs.Count.{raised, raisedBy};
+ghost use Rattle.root.specs.Runs.{OneRun};
 
 /// A reading of either width, of which a root is asked.
 #[derive(Clone, Copy)]
@@ -34,15 +36,19 @@ fn same_root<P: RootUnit, Q: RootUnit>(first: &mut P, second: &mut Q, reading: R
 }
 
 /// Asks two units for the same roots in the same order, and says whether all their answers have
-/// the same bits. They always have, whatever the units; and units that start with equal counts end
-/// with equal counts.
+/// the same bits. They always have, whatever the units; and each counts every reading once, so units
+/// that start with equal counts end with equal counts.
 pub fn agree<P: RootUnit, Q: RootUnit>(first: &mut P, second: &mut Q, readings: &[Reading]) -> bool
     ensures roots { λ r. ⌜ r ≡ true ⌝ }
+    ensures run { λ _. ⌜ OneRun ⌝ }
+    ensures first { λ _. ⌜ P·RootUnit .count (now (first .exit)) ≡ raisedBy (length (now (readings .entry))) (P·RootUnit .count (now (first .entry))) ⌝ }
+    ensures second { λ _. ⌜ Q·RootUnit .count (now (second .exit)) ≡ raisedBy (length (now (readings .entry))) (Q·RootUnit .count (now (second .entry))) ⌝ }
     ensures counts { λ _. ⌜ (P·RootUnit .count (now (first .entry)) ≡ Q·RootUnit .count (now (second .entry)) → P·RootUnit .count (now (first .exit)) ≡ Q·RootUnit .count (now (second .exit))) ⌝ }
 {
-    let mut same = true;
     for reading in readings {
-        same = same & same_root(first, second, *reading);
+        if !same_root(first, second, *reading) {
+            return false;
+        }
     }
-    same
+    true
 }

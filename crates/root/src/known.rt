@@ -7,19 +7,22 @@ use std::num::f64_to_bits_with_nan;
 ghost use mathlib.Core.Path.{_≡_};
 ghost use mathlib.Core.Bool.{true};
 ghost use lib.Ieee.{Float, binary32, binary64, ofBits, toBits};
+ghost use lib.ListN.{length};
 ghost use Rattle.std.specs.shelf.Lists.{All};
 ghost use Rattle.rootlaws.specs.Roots.{NearestRoot, OneRoot};
-ghost use Rattle.root.specs.Count.{raised};
+ghost use Rattle.root.specs.Count.{raised, raisedBy};
 ghost use Rattle.root.specs.Known.{rows, Known};
 
 fn wide_is<U: RootUnit>(unit: &mut U, of: u64, root: u64) -> bool
-    ensures { λ r. ⌜ (((s : Float) → NearestRoot binary64 (ofBits binary64 of) s → toBits binary64 s ≡ root) → r ≡ true) ⌝ }
+    ensures root { λ r. ⌜ (((s : Float) → NearestRoot binary64 (ofBits binary64 of) s → toBits binary64 s ≡ root) → r ≡ true) ⌝ }
+    ensures counted { λ _. ⌜ U·RootUnit .count (now (unit .exit)) ≡ raised (U·RootUnit .count (now (unit .entry))) ⌝ }
 {
     f64_to_bits_with_nan(unit.wide_root(f64_from_bits_with_nan(of))) == root
 }
 
 fn narrow_is<U: RootUnit>(unit: &mut U, of: u32, root: u32) -> bool
-    ensures { λ r. ⌜ (((s : Float) → NearestRoot binary32 (ofBits binary32 of) s → toBits binary32 s ≡ root) → r ≡ true) ⌝ }
+    ensures root { λ r. ⌜ (((s : Float) → NearestRoot binary32 (ofBits binary32 of) s → toBits binary32 s ≡ root) → r ≡ true) ⌝ }
+    ensures counted { λ _. ⌜ U·RootUnit .count (now (unit .exit)) ≡ raised (U·RootUnit .count (now (unit .entry))) ⌝ }
 {
     f32_to_bits_with_nan(unit.narrow_root(f32_from_bits_with_nan(of))) == root
 }
@@ -32,6 +35,7 @@ pub fn known_roots<U: RootUnit>(unit: &mut U) -> bool
     ensures rows { λ _. ⌜ All Known rows ⌝ }
     ensures one { λ _. ⌜ OneRoot ⌝ }
     ensures come { λ r. ⌜ r ≡ true ⌝ }
+    ensures counted { λ _. ⌜ U·RootUnit .count (now (unit .exit)) ≡ raisedBy (length rows) (U·RootUnit .count (now (unit .entry))) ⌝ }
 {
     wide_is(unit, 0x4010_0000_0000_0000, 0x4000_0000_0000_0000)
         & wide_is(unit, 0x4000_0000_0000_0000, 0x3ff6_a09e_667f_3bcd)
