@@ -303,6 +303,15 @@ fn decided<F: SqrtHelper>(m_u2: F::Int, m: F::Int) -> F::Int
     m.wrapping_add(past_half(m_u2, m, shift))
 }
 
+// The exponent field of the root, with the exponent in place.
+fn halved_in_place<F: SqrtHelper>(ix: F::Int) -> F::Int
+    ensures { λ r. ⌜ Int·Int .nat r ≡ (Int·Int .nat ix / 2 ^ F·Layout .shape .sig + bias (F·Layout .shape)) / 2 % 2 ^ suc (F·Layout .shape .half) * 2 ^ F·Layout .shape .sig ⌝ }
+{
+    let f = F::fields();
+    let half_bias = F::Int::from_u32(f.exp_bias).shl(f.sig_bits - 1);
+    ix.shr(1).wrapping_add(half_bias).bitand(f.exp_mask)
+}
+
 // Reduces the argument such that `x = 4^e * m`, with the exponent in place: the word `m_u2`, and
 // the exponent field of the root.
 fn reduced_in_place<F: SqrtHelper>(ix: F::Int) -> (F::Int, F::Int)
@@ -310,8 +319,7 @@ fn reduced_in_place<F: SqrtHelper>(ix: F::Int) -> (F::Int, F::Int)
     ensures exp { λ r. ⌜ Int·Int .nat (r .1) ≡ (Int·Int .nat ix / 2 ^ F·Layout .shape .sig + bias (F·Layout .shape)) / 2 % 2 ^ suc (F·Layout .shape .half) * 2 ^ F·Layout .shape .sig ⌝ }
 {
     let f = F::fields();
-    let half_bias = F::Int::from_u32(f.exp_bias).shl(f.sig_bits - 1);
-    let e_noshift = ix.shr(1).wrapping_add(half_bias).bitand(f.exp_mask);
+    let e_noshift = halved_in_place::<F>(ix);
     if ix.bitand(f.implicit_bit).eq(F::Int::from_u32(0)) {
         (ix.shl(f.exp_bits).bitor(f.sign_mask), e_noshift)
     } else {
