@@ -1,5 +1,7 @@
 // Angles: libm's inverse trigonometry. Each answer is the float that libm's branches and operations
 // give.
+#![tactic(auto)]
+
 pub mod acos;
 pub mod acosf;
 pub mod asin;

@@ -1,5 +1,7 @@
 // The C functions, on patterns. Any pattern may come in; a NaN goes out as the quiet one with a
 // clear sign. `include/jamcurfew.h` declares them.
+#![tactic(auto)]
+
 ghost use Rattle.std.specs.Prelude.{◌≡◌, from_bits, to_bits};
 ghost use Rattle.std.specs.Float.{binary32, binary64};
 ghost use Rattle.width.specs.Shape.{shape_of};

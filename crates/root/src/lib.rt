@@ -1,4 +1,6 @@
 // Square roots: the nearest root of every float, and the units that are asked for roots.
+#![tactic(auto)]
+
 pub mod agree;
 pub mod env;
 pub mod goldschmidt;

@@ -1,1 +1,2 @@
 // The laws of the root, on whole numbers.
+#![tactic(auto)]

@@ -1,4 +1,6 @@
 // Squares up fields: reads the sides of each, and prints the diagonal that its corners must show.
+#![tactic(auto)]
+
 ghost use Rattle.std.specs.Prelude.{◌≡◌, true};
 
 use anyhow::anyhow;

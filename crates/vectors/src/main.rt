@@ -1,4 +1,6 @@
 // Replays a list of libm's answers: asks our functions the same, and counts what differs.
+#![tactic(auto)]
+
 mod question;
 
 use angle::known::known_answers;

@@ -1,10 +1,10 @@
 // The two float widths: the layout of their patterns, and their arithmetic.
+#![tactic(auto)]
+
 pub mod float_traits;
 pub mod int_traits;
 pub mod narrow;
 pub mod wide;
 
-use crate::narrow::Int as _;
-use crate::wide::Int as _;
 pub use float_traits::{Fields, Layout, Width};
 pub use int_traits::{HInt, Int};
