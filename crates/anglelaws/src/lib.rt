@@ -1,3 +1,2 @@
 // Proofs only: what the angle functions are, and the laws that they keep.
 #![tactic(auto)]
-

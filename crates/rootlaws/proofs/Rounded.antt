@@ -1,6 +1,6 @@
 -- The library's exact root, rounded once, is the nearest root.
 -- On the way: a fraction that lies strictly between the two points halfway to a float's neighbours is rounded to that float.
-use Rattle.std.proofs.Common.{◌≡◌, ℕ, zero, suc, ◌+◌, ◌-◌, ◌*◌, ◌/◌, ◌%◌, ◌^◌, ◌<◌, ◌≤◌, Bool, true, false, cond, not, T, eqb, leb, ℤ, sym, refl, ap, ◌∙◌, subst, ap₂, le_trans, le_of_eq, lt_of_lt_of_le, mul-le-mul_right, div-lt_iff_lt-mul, mul-le-mul, mul-lt-mul_of_pos_right, mul-pos, lt_of_not-le, div-add-mod', le-div_iff_mul-le, mul-one, not-le_of_lt, mul-div_cancel, arith, eqb→eq, leb→le, pow_mono}
+use Rattle.std.proofs.Common.{◌≡◌, ℕ, zero, suc, ◌+◌, ◌-◌, ◌*◌, ◌/◌, ◌%◌, ◌^◌, ◌<◌, ◌≤◌, Bool, true, false, cond, not, T, eqb, leb, ℤ, pos, negsuc, sym, refl, ap, ◌∙◌, subst, ap₂, le_trans, le_of_eq, lt_of_lt_of_le, mul-le-mul_right, div-lt_iff_lt-mul, mul-le-mul, mul-lt-mul_of_pos_right, mul-pos, lt_of_not-le, div-add-mod', le-div_iff_mul-le, mul-one, not-le_of_lt, mul-div_cancel, arith, eqb→eq, leb→le, pow_mono}
 use Prim.Native.Nat.{compare, Ordering}
 use native.Mathlib.Nat.{div-eq_of_lt-le, pow-succ'}
 use lib.Dec.{is_le, compare_is_eq, nleb→lt}
@@ -13,6 +13,7 @@ use lib.Ieee.Nearest.{closest}
 use lib.Ieee.Order.{drop, kept}
 use lib.Ieee.Scale.{grid, overflow, round_val}
 use Rattle.std.specs.Float as Floats
+use lib.Ieee as Ieee
 use Rattle.std.proofs.lemmas.Nat.{pow_pos, pow-add}
 use Rattle.std.proofs.lemmas.Bool.{leb-true, leb-false, eqb-true}
 use Rattle.width.specs.Shape.{reading}
@@ -201,18 +202,18 @@ root_digit : (r n : ℕ) (b : Bool) → Root r (n / 4) → leb ((2 * r + 1) * (2
 root_digit r n true h e = (leb-true ((2 * r + 1) * (2 * r + 1)) n e, omega arith)
 root_digit r n false h e = (omega arith, leb-false ((2 * r + 1) * (2 * r + 1)) n e)
 
-root_below : (k n : ℕ) → n < 2 ^ k → Root (Floats.isqrt-below k n) n
-unfolding Floats.isqrt-below
+root_below : (k n : ℕ) → n < 2 ^ k → Root (Ieee.root_below k n) n
+unfolding Ieee.root_below
 root_below zero n h = omega arith
-root_below (suc k) n h = root_digit (Floats.isqrt-below k (n / 4)) n (leb ((2 * Floats.isqrt-below k (n / 4) + 1) * (2 * Floats.isqrt-below k (n / 4) + 1)) n) (root_below k (n / 4) (omega (arith, pow-succ' 2 k))) refl
+root_below (suc k) n h = root_digit (Ieee.root_below k (n / 4)) n (leb ((2 * Ieee.root_below k (n / 4) + 1) * (2 * Ieee.root_below k (n / 4) + 1)) n) (root_below k (n / 4) (omega (arith, pow-succ' 2 k))) refl
 
 lt_of_squares : (a b : ℕ) → a * a < b * b → a < b
 lt_of_squares a b h = lt_of_not-le (λ (g : b ≤ a). omega (arith, mul-le-mul g g))
 
 -- the root of n lies between h and k, so twice the root, made odd where it is not whole, lies between their doubles
-twice_between : (n h k : ℕ) → h * h < n → n < k * k → (2 * h < Floats.twice-sqrt-sticky n) × (Floats.twice-sqrt-sticky n < 2 * k)
-unfolding Floats.twice-sqrt-sticky
-twice_between n h k a b = go (Floats.isqrt-below (size n) n) (root_below (size n) n (size-lt n))
+twice_between : (n h k : ℕ) → h * h < n → n < k * k → (2 * h < Ieee.root_twice n) × (Ieee.root_twice n < 2 * k)
+unfolding Ieee.root_twice
+twice_between n h k a b = go (Ieee.root_below (size n) n) (root_below (size n) n (size-lt n))
   where
     go : (r : ℕ) → Root r n → (2 * h < 2 * r + cond (eqb (r * r) n) 0 1) × (2 * r + cond (eqb (r * r) n) 0 1 < 2 * k)
     go r w = at (eqb (r * r) n) (eqb-true (r * r) n)
@@ -269,9 +270,19 @@ exact_root f m e n t h b =
     let V = units f (fin false (suc m) e) in
     let N = V * 2 ^ low f * (4 * (finer f * finer f)) in
     let i : suc m * up e * 2 ^ 4542 / down e ≡ N = radicand (suc m * up e) (down e) V (2 ^ low f) (finer f) (2 ^ 4542) (down_pos e) (whole_units f (suc m) e t) (finer_square f) in
-    let z = scaled (V * 2 ^ low f) (finer f) (2 ^ low f) (2 ^ 2272) (Floats.twice-sqrt-sticky N) (pow_pos (2270 - low f)) (pow_pos (low f)) (finer_once f) (twice_between N)
+    let z = scaled (V * 2 ^ low f) (finer f) (2 ^ low f) (2 ^ 2272) (Ieee.root_twice N) (pow_pos (2270 - low f)) (pow_pos (low f)) (finer_once f) (twice_between N)
     (reading (hid f) (n - 1) + reading (hid f) n) (reading (hid f) n + reading (hid f) (suc n)) b.below b.above in
-    sym (ap (λ x. round f false (Floats.twice-sqrt-sticky x) (2 ^ 2272)) i ∙ nearest_round f n (Floats.twice-sqrt-sticky N) (2 ^ 2272) h (pow_pos 2272) z.0 z.1)
+    sym (ap (λ x. round f false (Ieee.root_twice x) (2 ^ 2272)) i ∙ nearest_round f n (Ieee.root_twice N) (2 ^ 2272) h (pow_pos 2272) z.0 z.1)
+
+-- a zero that a format holds is written in one way
+zero_exponent : (e : ℤ) → up e * down e ≡ 1 → e ≡ pos 0
+zero_exponent (pos zero) h = refl
+zero_exponent (pos (suc k)) h = absurd (omega (arith, pow-succ' 2 k))
+zero_exponent (negsuc k) h = absurd (omega (arith, pow-succ' 2 k))
+
+zero_written : (f : Format) (s : Bool) (e : ℤ) → T (fits f (fin s zero e)) → fin s zero e ≡ fin s zero (pos 0)
+unfolding fits
+zero_written f s e t = ap (fin s zero) (zero_exponent e (eqb→eq (up e * down e) 1 t))
 
 -- the nearest root of a float is what the library's root is defined to be
 pub root_is : (f : Format) (v r : Float) → T (fits f v) → NearestRoot f v r → r ≡ Floats.sqrt f v
@@ -279,7 +290,7 @@ unfolding Floats.sqrt
 root_is f nan r t h = h
 root_is f (inf true) r t h = h
 root_is f (inf false) r t h = h
-root_is f (fin s zero e) r t h = h
+root_is f (fin s zero e) r t h = h ∙ zero_written f s e t
 root_is f (fin true (suc m) e) r t h = h
 root_is f (fin false (suc m) e) r t h =
     let b = halfway_bits f (fin false (suc m) e) r h in
