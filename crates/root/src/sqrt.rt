@@ -17,8 +17,6 @@ ghost use Rattle.rootlaws.proofs.Plans.{narrow_keeps, wide_keeps};
 
 use crate::env::{FpResult, Status};
 use crate::goldschmidt::goldschmidt;
-use width::narrow::Int as _;
-use width::wide::Int as _;
 use width::{HInt, Int, Layout, Width};
 
 /// A number of 16 bits below 1, near to `1 / sqrt(x)`, for each value of the lowest exponent bit
@@ -65,13 +63,13 @@ pub trait SqrtHelper: Layout {
 
     /// The upper bits of a word.
     fn upper(m_u2: Self::Int) -> Self::ISet2
-        ensures { Self.ISet2.Int.nat result ≡ Int-as-Int.nat m_u2 / 2 ^ (Int-as-Int.bits - Self.ISet2.Int.bits) };
+        ensures { Self.ISet2.Int.nat result ≡ Self.Int.Int.nat m_u2 / 2 ^ (Self.Int.Int.bits - Self.ISet2.Int.bits) };
 
     /// A number below 1 in the longer word.
     fn widened(r_u0: Self::ISet2) -> Self::Int
-        ensures { Int-as-Int.nat result ≡ Self.ISet2.Int.nat r_u0 * 2 ^ (Int-as-Int.bits - Self.ISet2.Int.bits) % 2 ^ Int-as-Int.bits };
+        ensures { Self.Int.Int.nat result ≡ Self.ISet2.Int.nat r_u0 * 2 ^ (Self.Int.Int.bits - Self.ISet2.Int.bits) % 2 ^ Self.Int.Int.bits };
 
-    ghost keeps: { Keeps (record { bits = Int-as-Int.bits; short_bits = Self.ISet2.Int.bits; mulh = Int-as-HInt.mulh; short_mulh = Self.ISet2.HInt.mulh; short_rounds = set2; rounds = last }) Self.Layout.shape };
+    ghost keeps: { Keeps (record { bits = Self.Int.Int.bits; short_bits = Self.ISet2.Int.bits; mulh = Self.Int.HInt.mulh; short_mulh = Self.ISet2.HInt.mulh; short_rounds = set2; rounds = last }) Self.Layout.shape };
 }
 
 impl SqrtHelper for f32 {
@@ -142,7 +140,7 @@ fn entry(i: u32) -> u16
 // The first guess at `1 / sqrt(m_u2)`, from the lowest exponent bit and the top six bits of the
 // significand.
 fn first_guess<F: SqrtHelper>(ix: F::Int) -> F::ISet2
-    ensures { F.ISet2.Int.nat result ≡ slice_index guesses (Int-as-Int.nat ix / 2 ^ (F.Layout.shape.sig - 6) % 128) * 2 ^ (F.ISet2.Int.bits - 16) }
+    ensures { F.ISet2.Int.nat result ≡ slice_index guesses (F.Int.Int.nat ix / 2 ^ (F.Layout.shape.sig - 6) % 128) * 2 ^ (F.ISet2.Int.bits - 16) }
 {
     let i = ix.shr(F::fields().sig_bits - 6).low_u32() % 128;
     F::ISet2::from_u32(entry(i) as u32).shl(F::ISet2::size() - 16)

@@ -7,4 +7,4 @@ use Rattle.angle.proofs.atan.atan.Goals as goal
 pub returns : goal.returns
 returns c =
     let is = c.atan.ensures in
-    record { value = is; special = subst (λ r. AtanValues binary64 c.args.x r) (sym is) (atan_values binary64 c.args.x (subst T (sym c.well-formed.0.1) tt)) }
+    record { value = is; special = subst (λ r. AtanValues binary64 c.args.x r) (sym is) (atan_values binary64 c.args.x (subst T (sym c.well_formed.0.1) tt)) }

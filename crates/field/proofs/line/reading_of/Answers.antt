@@ -10,7 +10,7 @@ loop-byte-preserved c =
     let xs = c.args.line.now in
     let i = c.loop-byte.byte-index in
     let lt : i < length xs = omega arith in
-    let r = c.after-byte-reading.ensures in
+    let r = c.after_byte-reading.ensures in
     let step = r.value ∙ ap (λ x. after_byte x (get_or xs i 0)) c.loop-byte.invariant.1 ∙ sym (fold_more after_byte Before xs i 0 lt) in
     (r.small, step)
 

@@ -6,18 +6,18 @@ use Rattle.root.proofs.agree.same_root.Goals as goal
 -- Both answers are nearest roots of one reading, so they are one float, with one pattern.
 pub returns-in-Wide : goal.returns-in-Wide
 returns-in-Wide g c =
-    let one = one_root binary64 c.in-Wide.v _ _ c.wide-root-root.ensures.nearest c.wide-root-other.ensures.nearest in
+    let one = one_root binary64 c.in-Wide.v _ _ c.wide_root-root.ensures.nearest c.wide_root-other.ensures.nearest in
     record {
-      same = eq-eqb _ _ (c.f64-to-bits-with-nan.ensures ∙ ap (to_bits binary64) one ∙ sym c.f64-to-bits-with-nan-in-Wide.ensures);
-      first = c.wide-root-root.ensures.counted;
-      second = c.wide-root-other.ensures.counted;
+      same = eq-eqb _ _ (c.f64_to_bits_with_nan.ensures ∙ ap (to_bits binary64) one ∙ sym c.f64_to_bits_with_nan-in-Wide.ensures);
+      first = c.wide_root-root.ensures.counted;
+      second = c.wide_root-other.ensures.counted;
     }
 
 pub returns-in-Narrow : goal.returns-in-Narrow
 returns-in-Narrow g c =
-    let one = one_root binary32 c.in-Narrow.v _ _ c.narrow-root-root.ensures.nearest c.narrow-root-other.ensures.nearest in
+    let one = one_root binary32 c.in-Narrow.v _ _ c.narrow_root-root.ensures.nearest c.narrow_root-other.ensures.nearest in
     record {
-      same = eq-eqb _ _ (c.f32-to-bits-with-nan.ensures ∙ ap (to_bits binary32) one ∙ sym c.f32-to-bits-with-nan-in-Narrow.ensures);
-      first = c.narrow-root-root.ensures.counted;
-      second = c.narrow-root-other.ensures.counted;
+      same = eq-eqb _ _ (c.f32_to_bits_with_nan.ensures ∙ ap (to_bits binary32) one ∙ sym c.f32_to_bits_with_nan-in-Narrow.ensures);
+      first = c.narrow_root-root.ensures.counted;
+      second = c.narrow_root-other.ensures.counted;
     }

@@ -8,7 +8,7 @@ pub returns-then-lt : goal.returns-then-lt
 returns-then-lt g c M j k h =
     let S = g.L.Layout.shape in
     let t = c.trial.ensures in
-    drawn_left (2 ^ (S.sig + S.half)) (2 ^ g.Int.Int.bits) M j _ _ _ (range_is S _ g.met.L.Layout.whole) (pow_pos (S.sig + S.half))
+    drawn_left (2 ^ (S.sig + S.half)) (2 ^ g.L.Int.Int.bits) M j _ _ _ (range_is S _ g.met.L.Layout.whole) (pow_pos (S.sig + S.half))
     (room_is S _ g.met.L.Layout.sound g.met.L.Layout.whole j k) h _ _ _ _ t.drawn t.taken c.shl-root.ensures c.shl-word.ensures
     (ltb-true _ _ (sym c.lt.ensures ∙ c.if-lt.true))
 
@@ -16,7 +16,7 @@ pub returns-else-lt : goal.returns-else-lt
 returns-else-lt g c M j k h =
     let S = g.L.Layout.shape in
     let t = c.trial.ensures in
-    let one = c.from-u32.ensures in
-    drawn_taken (2 ^ (S.sig + S.half)) (2 ^ g.Int.Int.bits) M j _ _ _ (range_is S _ g.met.L.Layout.whole) (pow_pos (S.sig + S.half))
+    let one = c.from_u32.ensures in
+    drawn_taken (2 ^ (S.sig + S.half)) (2 ^ g.L.Int.Int.bits) M j _ _ _ (range_is S _ g.met.L.Layout.whole) (pow_pos (S.sig + S.half))
     (room_is S _ g.met.L.Layout.sound g.met.L.Layout.whole j k) h _ _ _ _ t.drawn t.taken c.shl-root.ensures c.shl-word.ensures
-    (ltb-false _ _ (sym c.lt.ensures ∙ c.if-lt.false)) _ _ (c.wrapping-add-root.ensures ∙ ap (λ x. (g.Int.Int.nat c.shl-root.result + x) % 2 ^ g.Int.Int.bits) one) c.wrapping-sub.ensures
+    (ltb-false _ _ (sym c.lt.ensures ∙ c.if-lt.false)) _ _ (c.wrapping_add-root.ensures ∙ ap (λ x. (g.L.Int.Int.nat c.shl-root.result + x) % 2 ^ g.L.Int.Int.bits) one) c.wrapping_sub.ensures

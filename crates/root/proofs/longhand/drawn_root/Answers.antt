@@ -5,7 +5,7 @@ use Rattle.root.proofs.Drawn.{quarter, kept_start, kept_next, drawn_nearest}
 use Rattle.root.proofs.longhand.drawn_root.Goals as goal
 
 pub loop-left-init : goal.loop-left-init
-loop-left-init g c = kept_start g.L.Layout.shape _ _ _ c.fields-left.ensures.sig-bits (c.from-u32-zero.ensures ∙ zero-mod _) c.requires.1
+loop-left-init g c = kept_start g.L.Layout.shape _ _ _ c.fields-left.ensures.sig_bits (c.from_u32-zero.ensures ∙ zero-mod _) c.requires.1
 
 pub loop-left-preserved : goal.loop-left-preserved
 loop-left-preserved g c =
@@ -18,7 +18,7 @@ loop-left-preserved g c =
 pub returns : goal.returns
 returns g c =
     let S = g.L.Layout.shape in
-    let n = g.Int.Int.nat in
+    let n = g.L.Int.Int.nat in
     let h = c.draw-hand.result in
     let k : S.sig - c.loop-left.left ≤ S.sig = omega arith in
     let e : S.sig - c.loop-left.left ≡ S.sig = omega arith in

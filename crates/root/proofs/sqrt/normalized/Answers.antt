@@ -4,17 +4,17 @@ use Rattle.root.proofs.Normal.{zeros_enough, shift_is}
 use Rattle.root.proofs.Ported.{stored_subnormal}
 use Rattle.root.proofs.sqrt.normalized.Goals as goal
 
-pub overflow-sub-n : goal.overflow-sub-n
-overflow-sub-n g c =
+pub overflow_sub-n : goal.overflow_sub-n
+overflow_sub-n g c =
     let f = c.fields-f.ensures in
-    zeros_enough g.F.Layout.shape g.met.F.Layout.sound _ c.requires.0 _ g.met.F.Layout.whole c.requires.1 _ _ _ c.leading-zeros.ensures f.exp-bits f.exp-bias
+    zeros_enough g.F.Layout.shape g.met.F.Layout.sound _ c.requires.0 _ g.met.F.Layout.whole c.requires.1 _ _ _ c.leading_zeros.ensures f.exp_bits f.exp_bias
 
 pub returns : goal.returns
 returns g c =
     let S = g.F.Layout.shape in
-    let W = 2 ^ g.Int.Int.bits in
+    let W = 2 ^ g.F.Int.Int.bits in
     let f = c.fields-f.ensures in
-    let n = shift_is S g.met.F.Layout.sound _ c.requires.0 _ g.met.F.Layout.whole c.requires.1 _ _ _ c.leading-zeros.ensures f.exp-bits f.exp-bias in
-    stored_subnormal S g.met.F.Layout.sound _ _ c.requires.0 c.requires.1 g.met.F.Layout.whole (c.leading-zeros.result - c.fields-f.result.exp_bits) (g.Int.Int.nat c.shl-2.result) (g.Int.Int.nat c.wrapping-sub-shifted.result) _ _ n f.sig-bits
-    (c.shl-2.ensures ∙ ap (λ x. x * 2 ^ c.fields-f.result.sig_bits % W) c.from-u32.ensures)
-    (c.wrapping-sub-shifted.ensures ∙ ap (λ x. (x + W - g.Int.Int.nat c.shl-2.result) % W) c.shl.ensures) refl
+    let n = shift_is S g.met.F.Layout.sound _ c.requires.0 _ g.met.F.Layout.whole c.requires.1 _ _ _ c.leading_zeros.ensures f.exp_bits f.exp_bias in
+    stored_subnormal S g.met.F.Layout.sound _ _ c.requires.0 c.requires.1 g.met.F.Layout.whole (c.leading_zeros.result - c.fields-f.result.exp_bits) (g.F.Int.Int.nat c.shl-2.result) (g.F.Int.Int.nat c.wrapping_sub-shifted.result) _ _ n f.sig_bits
+    (c.shl-2.ensures ∙ ap (λ x. x * 2 ^ c.fields-f.result.sig_bits % W) c.from_u32.ensures)
+    (c.wrapping_sub-shifted.ensures ∙ ap (λ x. (x + W - g.F.Int.Int.nat c.shl-2.result) % W) c.shl.ensures) refl

@@ -7,7 +7,7 @@ use Rattle.root.proofs.sqrt.root_of.Goals as goal
 pub returns : goal.returns
 returns g c =
     let f = g.W.Width.fmt in
-    let b = g.Int.Int.nat c.args.ix in
-    let r = g.Int.Int.nat c.sqrt-round.result.val in
-    subst (λ y. NearestRoot f (of_bits f b) y) (sym c.from-pattern.ensures)
-    (bits_root f b r c.requires (subst (λ S. RootBits S b r) g.met.W.Width.shaped c.sqrt-round.ensures.root))
+    let b = g.W.Int.Int.nat c.args.ix in
+    let r = g.W.Int.Int.nat c.sqrt_round.result.val in
+    subst (λ y. NearestRoot f (of_bits f b) y) (sym c.from_pattern.ensures)
+    (bits_root f b r c.requires (subst (λ S. RootBits S b r) g.met.W.Width.shaped c.sqrt_round.ensures.root))

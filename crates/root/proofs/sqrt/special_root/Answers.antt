@@ -6,7 +6,7 @@ use Rattle.root.proofs.sqrt.special_root.Goals as goal
 
 pub returns-then-eq : goal.returns-then-eq
 returns-then-eq g c =
-    let z = sym c.shl.ensures ∙ eqb-true _ _ (sym c.eq.ensures ∙ c.if-eq.true) ∙ c.from-u32.ensures ∙ zero-mod _ in
+    let z = sym c.shl.ensures ∙ eqb-true _ _ (sym c.eq.ensures ∙ c.if-eq.true) ∙ c.from_u32.ensures ∙ zero-mod _ in
     record { root = zero_root g.F.Layout.shape _ _ g.met.F.Layout.whole z; status = sym (status_zero g.F.Layout.shape _ _ g.met.F.Layout.whole z) }
 
 pub returns-then-lt : goal.returns-then-lt
@@ -14,12 +14,12 @@ returns-then-lt g c =
     let S = g.F.Layout.shape in
     let whole = g.met.F.Layout.whole in
     let f = c.fields-f.ensures in
-    let n : g.Int.Int.nat c.args.ix * 2 % 2 ^ g.Int.Int.bits ≡ 0 → ⊥ = λ z. eqb-false _ _ (sym c.eq.ensures ∙ c.if-eq.false) (c.shl.ensures ∙ z ∙ sym (c.from-u32.ensures ∙ zero-mod _)) in
-    let h = subst (λ x. x < g.Int.Int.nat c.args.ix) f.exp-mask (ltb-true _ _ (sym c.lt.ensures ∙ c.if-lt.true)) in
-    record { root = none_root S _ _ whole n h _ f.quiet-nan; status = sym (status_invalid S _ _ whole n h) }
+    let n : g.F.Int.Int.nat c.args.ix * 2 % 2 ^ g.F.Int.Int.bits ≡ 0 → ⊥ = λ z. eqb-false _ _ (sym c.eq.ensures ∙ c.if-eq.false) (c.shl.ensures ∙ z ∙ sym (c.from_u32.ensures ∙ zero-mod _)) in
+    let h = subst (λ x. x < g.F.Int.Int.nat c.args.ix) f.exp_mask (ltb-true _ _ (sym c.lt.ensures ∙ c.if-lt.true)) in
+    record { root = none_root S _ _ whole n h _ f.quiet_nan; status = sym (status_invalid S _ _ whole n h) }
 
 pub returns : goal.returns
 returns g c =
     let f = c.fields-f.ensures in
-    let h = subst (λ x. g.Int.Int.nat c.args.ix ≤ x) f.exp-mask (ltb-false _ _ (sym c.lt.ensures ∙ c.if-lt.false)) in
-    record { root = c.root-at.ensures _ c.normalized-top.ensures; status = sym (status_ok g.F.Layout.shape _ _ g.met.F.Layout.whole h) }
+    let h = subst (λ x. g.F.Int.Int.nat c.args.ix ≤ x) f.exp_mask (ltb-false _ _ (sym c.lt.ensures ∙ c.if-lt.false)) in
+    record { root = c.root_at.ensures _ c.normalized-top.ensures; status = sym (status_ok g.F.Layout.shape _ _ g.met.F.Layout.whole h) }

@@ -4,13 +4,13 @@ use Rattle.std.proofs.lemmas.Nat.{and_mask}
 use Rattle.anglelaws.proofs.Signs.{nan_size, cleared_size, cleared_number}
 use Rattle.angle.proofs.sign.F32Fabs.fabs.Goals as goal
 
-pub returns-then-is-nan : goal.returns-then-is-nan
-returns-then-is-nan c = nan_size c.args.self (sym c.is-nan.ensures.value ∙ c.if-is-nan.true)
+pub returns-then-is_nan : goal.returns-then-is_nan
+returns-then-is_nan c = nan_size c.args.self (sym c.is_nan.ensures.value ∙ c.if-is_nan.true)
 
-pub float-from-bits-result : goal.float-from-bits-result
-float-from-bits-result c =
-    cleared_number binary32 c.args.self (subst T (sym c.well-formed.0.1) tt) (sym c.is-nan.ensures.value ∙ c.if-is-nan.false) _ (and_mask (to_bits binary32 c.args.self) 31)
+pub float-from_bits-result : goal.float-from_bits-result
+float-from_bits-result c =
+    cleared_number binary32 c.args.self (subst T (sym c.well_formed.0.1) tt) (sym c.is_nan.ensures.value ∙ c.if-is_nan.false) _ (and_mask (to_bits binary32 c.args.self) 31)
 
 pub returns : goal.returns
 returns c =
-    cleared_size binary32 c.args.self (subst T (sym c.well-formed.0.1) tt) (sym c.is-nan.ensures.value ∙ c.if-is-nan.false) _ (and_mask (to_bits binary32 c.args.self) 31)
+    cleared_size binary32 c.args.self (subst T (sym c.well_formed.0.1) tt) (sym c.is_nan.ensures.value ∙ c.if-is_nan.false) _ (and_mask (to_bits binary32 c.args.self) 31)
