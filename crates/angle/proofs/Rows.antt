@@ -6,7 +6,7 @@ use Rattle.std.specs.Float.{sqrt, is_sign_negative}
 use Rattle.std.specs.List.{AllByRecursion as All}
 use Rattle.std.proofs.lemmas.Bool.{eq-eqb}
 use Rattle.root.specs.Known as Roots
-use Rattle.root.proofs.Rows as Roots-known
+use Rattle.root.proofs.Rows as RootsKnown
 use Rattle.rootlaws.proofs.Rounded.{root_is}
 use Rattle.anglelaws.specs.Words.{top_word, low_word}
 use Rattle.anglelaws.specs.Atan as Atan
@@ -44,7 +44,7 @@ narrow_upright = refl
 
 pub known_rows : All Known rows
 known_rows =
-    let k = Roots-known.known-rows in (
+    let k = RootsKnown.known_rows in (
       root _ k.0,
       (
         root _ k.1.0,

@@ -7,8 +7,8 @@ use Rattle.angle.proofs.sign.F32Fabs.fabs.Goals as goal
 pub returns-then-is_nan : goal.returns-then-is_nan
 returns-then-is_nan c = nan_size c.args.self (sym c.is_nan.ensures.value ∙ c.if-is_nan.true)
 
-pub float-from_bits-result : goal.float-from_bits-result
-float-from_bits-result c =
+pub float_from_bits-result : goal.float_from_bits-result
+float_from_bits-result c =
     cleared_number binary32 c.args.self (subst T (sym c.well_formed.0.1) tt) (sym c.is_nan.ensures.value ∙ c.if-is_nan.false) _ (and_mask (to_bits binary32 c.args.self) 31)
 
 pub returns : goal.returns
