@@ -1,7 +1,6 @@
 -- The words that code reads a number by.
 use Rattle.std.specs.Prelude.{◌≡◌, false, is_nan, Float}
 use Rattle.std.specs.Float.{Format}
-use Rattle.std.specs.Float.Ieee.{fits}
 use Rattle.std.specs.Float as Floats
 use Rattle.anglelaws.specs.Words.{top_word, low_word}
 use Rattle.angle.specs.declared.words.Words.{Words}

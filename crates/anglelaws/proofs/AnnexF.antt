@@ -1,5 +1,5 @@
 -- The functions have the special values of Annex F.
-use Rattle.std.proofs.Common.{◌≡◌, ℕ, suc, ◌+◌, ◌-◌, ◌*◌, ◌^◌, ◌<◌, Bool, true, false, cond, not, ◌&&◌, ◌||◌, T, ltb, ℤ, pos, sym, refl, ap, ◌∙◌, subst, ap₂, true≢false, mul-pos, zero-mul, arith}
+use Rattle.std.proofs.Common.{◌≡◌, ℕ, suc, ◌+◌, ◌-◌, ◌*◌, ◌^◌, ◌<◌, Bool, true, false, cond, not, ◌&&◌, ◌||◌, T, ltb, pos, sym, refl, ap, ◌∙◌, subst, ap₂, true≢false, mul-pos, zero-mul, arith}
 use mathlib.Core.Bool.{beq}
 use lib.Ieee.{Float, Format, binary32, binary64, nan, inf, fin, up, down, prec, emax, low, round, neg, sum, add, sub, mul, div, lt, fits, is_nan, of_bits, to_bits}
 use lib.Ieee.Exact.{HasValue, round_exact}

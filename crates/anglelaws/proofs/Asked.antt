@@ -1,5 +1,5 @@
 -- A root unit is asked for sizes from one half up to, not including, 1.
-use Rattle.std.proofs.Common.{◌≡◌, ℕ, ◌*◌, Bool, true, false, not, ◌&&◌, ◌||◌, T, eqb, ltb, leb, negsuc, sym, refl, ap, ◌∙◌, ap₂, true≢false, arith}
+use Rattle.std.proofs.Common.{◌≡◌, ℕ, ◌*◌, Bool, true, false, not, ◌&&◌, ◌||◌, T, eqb, ltb, leb, sym, refl, ap, ◌∙◌, ap₂, true≢false, arith}
 use lib.Ieee.{Float, Format, binary32, binary64, nan, inf, fin, up, down, lt, le, eq, fits, is_nan, of_bits, to_bits}
 use lib.Ieee.Bits.{of_bits-fits}
 use Rattle.std.specs.Float.{float_with_sign}

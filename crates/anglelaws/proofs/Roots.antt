@@ -1,10 +1,9 @@
 -- The high part of a root.
-use Rattle.std.proofs.Common.{◌≡◌, ℕ, ◌+◌, ◌-◌, ◌*◌, ◌/◌, ◌%◌, ◌^◌, ◌<◌, ◌≤◌, Bool, true, false, cond, not, T, ltb, sym, refl, ap, ◌∙◌, subst, arith, nltb→le}
+use Rattle.std.proofs.Common.{◌≡◌, ℕ, ◌*◌, ◌/◌, ◌%◌, ◌^◌, ◌<◌, ◌≤◌, true, false, cond, not, T, ltb, sym, ap, ◌∙◌, subst, arith}
 use lib.Ieee.{Float, Format, binary32, binary64, ones, hid, top, fits, is_nan, nan_bits, of_bits, to_bits}
 use lib.Ieee.Bits.{to_bits-lt, of_bits-to_bits, nan_bits_is, nan_bits_above}
 use Rattle.std.proofs.lemmas.Bool.{le-ltb, ltb-false}
 use Rattle.width.specs.Shape.{shape_of, width}
-use Rattle.width.proofs.Patterns.{only_nan}
 use Rattle.anglelaws.specs.Arcs.{low_bits, high_part}
 
 pub nan_high : (f : Format) (s : Float) → is_nan s ≡ true → s ≡ high_part f s

@@ -1,5 +1,5 @@
 -- The sign bit: what it says, and what is left without it.
-use Rattle.std.proofs.Common.{◌≡◌, ℕ, zero, suc, ◌+◌, ◌-◌, ◌*◌, ◌/◌, ◌%◌, ◌^◌, ◌<◌, ◌≤◌, Bool, true, false, cond, not, T, eqb, leb, sym, refl, ap, ◌∙◌, subst, ap₂, true≢false, mod-lt, mod-eq_of_lt, arith}
+use Rattle.std.proofs.Common.{◌≡◌, ℕ, zero, suc, ◌+◌, ◌/◌, ◌%◌, ◌<◌, Bool, true, false, cond, not, T, eqb, leb, sym, refl, ap, ◌∙◌, subst, ap₂, true≢false, mod-lt, mod-eq_of_lt, arith}
 use lib.Ieee.{Float, Format, binary32, binary64, nan, inf, fin, odd, prec, low, hid, ones, top, fits, is_nan, nan_bits, of_fields, of_bits, to_bits}
 use lib.Ieee.Bits.{nan_bits_is}
 use Rattle.std.specs.Float.{is_sign_negative, float_with_sign}

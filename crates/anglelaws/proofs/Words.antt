@@ -1,7 +1,7 @@
 -- What code reads of a pattern is the number's words.
-use Rattle.std.proofs.Common.{◌≡◌, ℕ, ◌+◌, ◌-◌, ◌*◌, ◌/◌, ◌%◌, ◌^◌, ◌<◌, ◌≤◌, Bool, true, false, not, eqb, leb, sym, refl, ap, ◌∙◌, subst, arith}
+use Rattle.std.proofs.Common.{◌≡◌, ℕ, ◌-◌, ◌/◌, ◌%◌, ◌^◌, ◌<◌, ◌≤◌, not, eqb, leb, sym, ap, ◌∙◌, arith}
 use lib.Bits.{bit_and}
-use lib.Ieee.{Float, Format, binary32, binary64, top, to_bits}
+use lib.Ieee.{Float, Format, binary32, binary64, top}
 use Rattle.std.specs.Float.{is_sign_negative}
 use Rattle.std.proofs.lemmas.Nat.{and_mask}
 use Rattle.std.proofs.lemmas.Bool.{le-leb, lt-leb, ne_eqb, eq-eqb}

@@ -1,5 +1,5 @@
 -- When a root unit is asked, in numbers.
-use Rattle.std.specs.Prelude.{◌≡◌, Bool, ◌&&◌, T, Float}
+use Rattle.std.specs.Prelude.{◌≡◌, ◌&&◌, T, Float}
 use Rattle.std.specs.Float.{Format}
 use Rattle.std.specs.Float.Ieee.{lt, le, fits}
 use Rattle.anglelaws.specs.Numbers.{half, one}

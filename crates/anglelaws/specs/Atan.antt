@@ -1,5 +1,5 @@
 -- The arctangent: the float that libm's branches and operations give, each rounded once.
-use Rattle.std.specs.Prelude.{ℕ, Bool, cond, [], ◌∷◌, is_nan, nat_le, nat_lt, Float}
+use Rattle.std.specs.Prelude.{ℕ, cond, [], ◌∷◌, is_nan, nat_le, nat_lt, Float}
 use Rattle.std.specs.Float.Ieee.{neg, add, sub, mul, div}
 use Rattle.std.specs.Float.{is_sign_negative, Format, binary32, binary64}
 use Rattle.anglelaws.specs.Words.{by, float, top_word}

@@ -1,6 +1,5 @@
 -- The loop of the longhand root: where it starts, what a turn keeps, and what it is left with.
-use Rattle.std.proofs.Common.{◌≡◌, ℕ, zero, suc, ◌+◌, ◌-◌, ◌*◌, ◌/◌, ◌%◌, ◌^◌, ◌<◌, ◌≤◌, sym, refl, ap, ◌∙◌, subst, ap₂, subst₂, mod-eq_of_lt, mul_assoc, mul-pos, zero-mul, arith}
-use native.Mathlib.Omega.{by_contra}
+use Rattle.std.proofs.Common.{◌≡◌, ℕ, suc, ◌+◌, ◌-◌, ◌*◌, ◌%◌, ◌^◌, ◌<◌, ◌≤◌, sym, ap, ◌∙◌, subst, subst₂, mod-eq_of_lt, mul_assoc, mul-pos, arith}
 use native.Mathlib.Nat.{pow-succ'}
 use Rattle.std.proofs.lemmas.Nat.{pow_pos, pow-add}
 use Rattle.width.specs.Shape.{Shape, Sound, width}

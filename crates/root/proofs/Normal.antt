@@ -1,5 +1,5 @@
 -- A positive pattern's significand and exponent, as code over the layout works them out.
-use Rattle.std.proofs.Common.{◌≡◌, ℕ, zero, suc, ◌+◌, ◌-◌, ◌*◌, ◌/◌, ◌%◌, ◌^◌, ◌<◌, ◌≤◌, cond, ltb, sym, refl, ap, ◌∙◌, subst, ap₂, le_trans, mul-le-mul_right, mod-eq_of_lt, mul-le-mul_left, arith}
+use Rattle.std.proofs.Common.{◌≡◌, ℕ, suc, ◌+◌, ◌-◌, ◌*◌, ◌/◌, ◌%◌, ◌^◌, ◌<◌, ◌≤◌, sym, ap, ◌∙◌, ap₂, mul-le-mul_right, mod-eq_of_lt, mul-le-mul_left, arith}
 use native.Mathlib.Nat.{pow-le-pow_right, pow-succ'}
 use lib.Bits.{bit_and, bit_or}
 use lib.Count.{count_leading_zeros}

@@ -1,13 +1,13 @@
 -- The parts of the ported root, as code over the layout works them out.
-use Rattle.std.proofs.Common.{◌≡◌, ℕ, zero, suc, ◌+◌, ◌-◌, ◌*◌, ◌/◌, ◌%◌, ◌^◌, ◌<◌, ◌≤◌, Bool, true, false, cond, not, ◌&&◌, eqb, ltb, leb, ◌⊎◌, get_or, sym, refl, ap, ◌∙◌, subst, ap₂, inl, inr, ⊎_elim, true≢false, le_trans, mul-le-mul_right, mod-lt, mod-eq_of_lt, mul-le-mul_left, one-mul, div-add-mod', zero-mul, arith}
+use Rattle.std.proofs.Common.{◌≡◌, ℕ, zero, suc, ◌+◌, ◌-◌, ◌*◌, ◌/◌, ◌%◌, ◌^◌, ◌<◌, ◌≤◌, Bool, true, false, not, ◌&&◌, ltb, leb, get_or, sym, refl, ap, ◌∙◌, subst, ap₂, ⊎_elim, true≢false, le_trans, mul-le-mul_right, mod-lt, mod-eq_of_lt, mul-le-mul_left, one-mul, div-add-mod', zero-mul, arith}
 use native.Mathlib.Nat.{add-mod_right, div-eq_of_lt, pow-succ', pow-le-pow_right}
 use lib.Bits.{bit_and, bit_or}
 use Rattle.std.proofs.lemmas.Nat.{pow_pos, pow-add, div_below, le-div}
 use Rattle.std.proofs.lemmas.Bool.{lt-ltb, le-ltb, le-leb, lt-leb, eq-eqb, ne_eqb, cases_eq}
 use Rattle.width.specs.Shape.{Shape, Sound, width, bias, sign, infinity}
 use Rattle.rootlaws.specs.Gold.{gold}
-use Rattle.rootlaws.specs.Plan.{Plan, Keeps, kept_by}
-use Rattle.rootlaws.specs.Split.{Stored, shift_of, sig_of, exp_of, word_of, word_at, field_of, frac_of, lift}
+use Rattle.rootlaws.specs.Plan.{Plan, Keeps}
+use Rattle.rootlaws.specs.Split.{Stored, shift_of, sig_of, exp_of, word_of, word_at, field_of, lift}
 use Rattle.rootlaws.specs.Table.{guesses, index}
 use Rattle.rootlaws.specs.Whole.{Nearest}
 use Rattle.rootlaws.specs.Words.{Kept, diff0, diff1}
@@ -15,10 +15,10 @@ use Rattle.rootlaws.proofs.Bits.{top_sum, exponent}
 use Rattle.rootlaws.proofs.Fields.{stored_is, field_is, word_is, half_is, tied, bit_test, shifted_word, shifted_half, unshifted_word_odd, unshifted_word_even, word_index}
 use Rattle.rootlaws.proofs.Last.{rounded, kept_below}
 use Rattle.rootlaws.proofs.Sizes.{word_range as whole-range, sign_range}
-use Rattle.rootlaws.proofs.Split.{odd_bias, sig_range, shift_range, word_range}
+use Rattle.rootlaws.proofs.Split.{odd_bias, shift_range, word_range}
 use Rattle.rootlaws.proofs.Square.{ways}
 use Rattle.root.proofs.Classes.{infinity_clear, exp_fits}
-use Rattle.root.proofs.Normal.{bias_small, whole_word}
+use Rattle.root.proofs.Normal.{bias_small}
 
 -- ---- the first guess
 

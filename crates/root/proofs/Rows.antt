@@ -1,11 +1,11 @@
 -- The known roots: one computed test over all rows.
-use Rattle.std.proofs.Common.{◌≡◌, ℕ, suc, ◌+◌, ◌-◌, ◌*◌, ◌/◌, ◌%◌, ◌^◌, ◌<◌, Bool, true, false, cond, not, ◌&&◌, T, eqb, ltb, List, [], ◌∷◌, sym, refl, ap, ◌∙◌, arith, eqb→eq, ltb→lt}
+use Rattle.std.proofs.Common.{◌≡◌, ℕ, suc, ◌+◌, ◌-◌, ◌*◌, ◌%◌, ◌^◌, ◌<◌, Bool, true, false, cond, ◌&&◌, T, eqb, ltb, List, [], ◌∷◌, refl, ap, ◌∙◌, arith, eqb→eq, ltb→lt}
 use lib.Count.{count_trailing_zeros}
-use lib.Ieee.{Float, Format, binary32, binary64, of_bits, of_fields, to_bits, odd, size, span, climb}
+use lib.Ieee.{Float, of_bits, of_fields, to_bits, odd, size, span, climb}
 use lib.Ieee.Fits.{and_l, and_r}
 use Rattle.std.specs.List.{AllByRecursion as All}
-use Rattle.width.specs.Shape.{Shape, shape_of, width, bias, infinity, quiet, reading}
-use Rattle.rootlaws.specs.Roots.{Between, RootBits, target, NearestRoot}
+use Rattle.width.specs.Shape.{Shape, shape_of, width, infinity, quiet, reading}
+use Rattle.rootlaws.specs.Roots.{RootBits, target, NearestRoot}
 use Rattle.rootlaws.proofs.Floats.{bits_root, one_root}
 use Rattle.root.specs.Known.{Row, rows, Known}
 use Rattle.root.proofs.Classes.{number_root, none_root}

@@ -1,9 +1,9 @@
 -- The same readings from the same count give one run.
-use Rattle.std.proofs.Common.{◌≡◌, ℕ, List, [], ◌∷◌, sym, refl, ◌∙◌, ap₂}
+use Rattle.std.proofs.Common.{◌≡◌, [], ◌∷◌, sym, refl, ◌∙◌, ap₂}
 use lib.Ieee.{Float, binary32, binary64}
 use Rattle.rootlaws.proofs.Floats.{one_root}
 use Rattle.root.specs.Count.{raised}
-use Rattle.root.specs.Runs.{RootOf, Run, OneRun}
+use Rattle.root.specs.Runs.{RootOf, OneRun}
 use Rattle.root.specs.declared.agree.Reading.{Reading}
 use Rattle.root.specs.declared.agree.Reading.TheVariants.{Wide, Narrow}
 

@@ -1,6 +1,6 @@
 -- One turn of the iteration, as code over the integer works it out.
-use Rattle.std.proofs.Common.{◌≡◌, ℕ, zero, suc, ◌+◌, ◌-◌, ◌*◌, ◌/◌, ◌%◌, ◌^◌, ◌<◌, ◌≤◌, Bool, true, false, cond, sym, refl, ap, ◌∙◌, subst, ap₂, mod-eq_of_lt, add-one, arith}
-use Rattle.std.proofs.lemmas.Nat.{pow-add, pow_pos}
+use Rattle.std.proofs.Common.{◌≡◌, ℕ, ◌+◌, ◌-◌, ◌*◌, ◌%◌, ◌^◌, ◌≤◌, Bool, cond, refl, ap, ◌∙◌, ap₂, mod-eq_of_lt, add-one, arith}
+use Rattle.std.proofs.lemmas.Nat.{pow-add}
 use Rattle.rootlaws.specs.Gold.{Turn, doubles, turn, turns}
 
 -- the range of a word, by its quarter

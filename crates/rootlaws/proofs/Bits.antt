@@ -1,7 +1,6 @@
 -- What the code's shifts and masks come to, on a stored word X Q + f: Q = 2^p, f the fraction, X the exponent field
 -- (of a subnormal, the exponent that it would have, in words of K = 2^(eb + 2) fields).
-use Rattle.std.proofs.Common.{◌≡◌, ℕ, zero, suc, ◌+◌, ◌-◌, ◌*◌, ◌/◌, ◌%◌, ◌^◌, ◌<◌, ◌≤◌, max, sym, refl, ap, ◌∙◌, subst, ap₂, add-zero, mul-le-mul_right, mod-lt, mod-eq_of_lt, mul-le-mul_left, mul-pos, one-mul, arith}
-use native.Mathlib.Omega.{sub_cases, by_contra}
+use Rattle.std.proofs.Common.{◌≡◌, ℕ, suc, ◌+◌, ◌-◌, ◌*◌, ◌/◌, ◌%◌, ◌^◌, ◌<◌, ◌≤◌, max, sym, ap, ◌∙◌, subst, ap₂, add-zero, mul-le-mul_right, mod-eq_of_lt, one-mul, arith}
 use native.Mathlib.Nat.{div-add-mod, div-eq_of_lt, mul-add-mod_self_left, add-mod_right, div-div-eq-div-mul, mul-add-div_right, pow-succ', mod_self}
 use lib.Bits.{bit_and, bit_or, or_block, or_step, or_zero_r, or_shifted_r, and_mask, and_high}
 use Rattle.std.proofs.lemmas.Nat.{pow_pos, pow-add, mod-mul-add}

@@ -1,13 +1,9 @@
 -- Sets of rounds on the model.
-use Rattle.std.proofs.Common.{◌≡◌, ℕ, zero, suc, ◌+◌, ◌-◌, ◌*◌, ◌/◌, ◌%◌, ◌^◌, ◌<◌, ◌≤◌, Bool, true, false, cond, sym, refl, ap, ◌∙◌, subst, le_trans, mul-le-mul_right, mod-lt, mod-eq_of_lt, mul_comm, mul-le-mul, mul-le-mul_left, mul-pos, arith}
-use native.Mathlib.Omega.{sub_cases, by_contra}
+use Rattle.std.proofs.Common.{◌≡◌, ℕ, ◌+◌, ◌-◌, ◌*◌, ◌/◌, ◌%◌, ◌<◌, ◌≤◌, true, false, sym, refl, ap, ◌∙◌, subst, mod-eq_of_lt, mul_comm, arith}
 use native.Mathlib.Nat.{add-mul-mod_self_left}
 use Rattle.rootlaws.specs.Words.{top, units, Rec, Near, High, Range, Fits, Final, Kept}
-use Rattle.rootlaws.specs.Whole.{Nearest}
-use Rattle.width.specs.Product.{exact, halves}
-use Rattle.rootlaws.specs.Gold.{Turn, doubles, moved, fac_of, root_of, raw, turn, turns, begin, gold}
-use Rattle.rootlaws.proofs.Square.{cancel, cancel<, ways}
-use Rattle.rootlaws.proofs.Round.{Drift, After, round, round_D, next_near, next_small, past}
+use Rattle.rootlaws.specs.Gold.{Turn, fac_of, root_of, raw, turn, turns, begin, gold}
+use Rattle.rootlaws.proofs.Round.{Drift, round, round_D, next_near, next_small, past}
 use Rattle.rootlaws.proofs.Start.{start_near}
 use Rattle.rootlaws.proofs.Last.{kept}
 

@@ -1,5 +1,5 @@
 -- How many digits a nearest whole root has.
-use Rattle.std.proofs.Common.{◌≡◌, ℕ, zero, suc, ◌+◌, ◌-◌, ◌*◌, ◌%◌, ◌<◌, ◌≤◌, ◌⊎◌, ap, inl, inr, ⊎_elim, mul-le-mul_right, mod-eq_of_lt, mul-le-mul_left, arith}
+use Rattle.std.proofs.Common.{◌≡◌, ℕ, suc, ◌+◌, ◌-◌, ◌*◌, ◌%◌, ◌<◌, ◌≤◌, ◌⊎◌, ap, ⊎_elim, mul-le-mul_right, mod-eq_of_lt, mul-le-mul_left, arith}
 use native.Mathlib.Omega.{by_contra}
 use native.Mathlib.Nat.{add-mul-mod_self_left}
 use Rattle.rootlaws.specs.Whole.{Nearest}

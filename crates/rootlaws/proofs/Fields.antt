@@ -1,12 +1,11 @@
 -- The stored pattern, over the layout: what the port's shifts and masks make of it.
-use Rattle.std.proofs.Common.{◌≡◌, ℕ, zero, suc, ◌+◌, ◌-◌, ◌*◌, ◌/◌, ◌%◌, ◌^◌, ◌<◌, ◌≤◌, Bool, true, false, cond, eqb, ltb, ◌⊎◌, sym, refl, ap, ◌∙◌, subst, ap₂, inl, inr, ⊎_elim, le_trans, mul-le-mul_right, mod-lt, mod-eq_of_lt, mul_assoc, div-add-mod', mul-div_cancel, arith}
+use Rattle.std.proofs.Common.{◌≡◌, ℕ, zero, suc, ◌+◌, ◌-◌, ◌*◌, ◌/◌, ◌%◌, ◌^◌, ◌<◌, ◌≤◌, cond, eqb, sym, refl, ap, ◌∙◌, subst, ap₂, ⊎_elim, mul-le-mul_right, mod-lt, mod-eq_of_lt, div-add-mod', arith}
 use native.Mathlib.Nat.{mod_self, pow-succ'}
 use lib.Bits.{bit_and, bit_or, and_high}
-use lib.Count.{count_leading_zeros}
 use Rattle.std.proofs.lemmas.Nat.{pow_pos, pow-add, div-mul-add, mod-mul-add, div_below}
 use Rattle.std.proofs.lemmas.Bool.{lt-ltb, le-ltb, eq-eqb, ne_eqb, cases_eq}
 use Rattle.rootlaws.specs.Table.{index}
-use Rattle.width.specs.Shape.{Shape, Sound, bias, infinity, width}
+use Rattle.width.specs.Shape.{Shape, Sound, bias, infinity}
 use Rattle.rootlaws.specs.Split.{shift_of, sig_of, exp_of, word_of, field_of, frac_of, word_at}
 use Rattle.rootlaws.proofs.Square.{ways}
 use Rattle.rootlaws.proofs.Start.{index_odd, index_even, index_bits}

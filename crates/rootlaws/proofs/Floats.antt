@@ -1,20 +1,19 @@
 -- From patterns to floats: the root of a pattern is the nearest root of its float, and a float has one.
-use Rattle.std.proofs.Common.{◌≡◌, ℕ, zero, suc, ◌+◌, ◌-◌, ◌*◌, ◌/◌, ◌%◌, ◌^◌, ◌<◌, ◌≤◌, Bool, true, false, cond, not, T, eqb, ltb, leb, ◌⊎◌, ℤ, pos, negsuc, sym, refl, ap, ◌∙◌, subst, ap₂, subst₂, inl, inr, ⊎_elim, true≢false, mod-lt, mod-eq_of_lt, zero-lt-suc, mul_assoc, mul-le-mul, eq-or-lt_of_le, mul-pos, div-add-mod', zero-mul, mul-one, mul-div_cancel, arith, lt→ltb}
+use Rattle.std.proofs.Common.{◌≡◌, ℕ, zero, suc, ◌+◌, ◌-◌, ◌*◌, ◌/◌, ◌%◌, ◌^◌, ◌<◌, ◌≤◌, Bool, true, false, cond, not, T, eqb, ltb, leb, ℤ, pos, sym, refl, ap, ◌∙◌, subst, ap₂, subst₂, true≢false, mod-lt, mod-eq_of_lt, zero-lt-suc, mul_assoc, mul-le-mul, mul-pos, div-add-mod', zero-mul, mul-one, mul-div_cancel, arith, lt→ltb}
 use mathlib.Core.Bool.{false≢true}
-use native.Mathlib.Omega.{by_contra}
-use native.Mathlib.Nat.{div-eq_of_lt, mul-add-mod_self_left, div-add-mod}
-use lib.Ieee.{Float, Format, binary32, binary64, nan, inf, fin, up, down, low, prec, emax, hid, ones, top, odd, lt, fits, is_nan, of_fields, of_bits, to_bits, nan_bits}
+use native.Mathlib.Nat.{mul-add-mod_self_left, div-add-mod}
+use lib.Ieee.{Float, Format, binary32, binary64, nan, inf, fin, up, down, low, prec, emax, hid, ones, top, odd, lt, fits, is_nan, of_fields, of_bits, to_bits}
 use lib.Ieee.Bits.{of_bits-to_bits, to_bits-lt, of_bits-fits, to_bits-of_bits, nan_bits_is, nan_bits_above}
 use lib.Ieee.Exact.{HasValue, odd_sign}
-use lib.Ieee.Fits.{up_pos, down_pos}
+use lib.Ieee.Fits.{down_pos}
 use Rattle.std.specs.Float as Floats
 use Rattle.std.proofs.lemmas.Nat.{pow_pos, mod-mul-add, div_below}
-use Rattle.std.proofs.lemmas.Bool.{lt-ltb, le-ltb, le-leb, lt-leb, ne_eqb, cases_eq}
-use Rattle.width.specs.Shape.{Shape, shape_of, width, reading, quiet}
+use Rattle.std.proofs.lemmas.Bool.{lt-ltb, le-ltb, le-leb, lt-leb, ne_eqb}
+use Rattle.width.specs.Shape.{shape_of, width, reading, quiet}
 use Rattle.width.proofs.Patterns.{only_nan}
 use Rattle.rootlaws.specs.Roots.{Between, RootBits, units, before, after, Halfway, NearestRoot, OneRoot}
 use Rattle.rootlaws.proofs.Square.{ways}
-use Rattle.rootlaws.proofs.Readings.{reading_field, one_nearest, monotone}
+use Rattle.rootlaws.proofs.Readings.{reading_field, one_nearest}
 
 -- ---- the number of a finite pattern
 

@@ -1,5 +1,5 @@
 -- The fields of a pattern, put together by masks.
-use Rattle.std.proofs.Common.{◌≡◌, ℕ, suc, ◌+◌, ◌-◌, ◌*◌, ◌%◌, ◌^◌, ◌<◌, ◌≤◌, ap, ◌∙◌, mod-lt, one-mul, arith}
+use Rattle.std.proofs.Common.{◌≡◌, ℕ, ◌+◌, ◌-◌, ◌*◌, ◌%◌, ◌^◌, ◌<◌, ◌≤◌, ap, ◌∙◌, mod-lt, one-mul, arith}
 use lib.Bits.{bit_and, bit_or, and_mask, or_shifted_r}
 use Rattle.std.proofs.lemmas.Nat.{pow_pos, mod-mul-add}
 

@@ -1,10 +1,10 @@
 -- The last step of the set, what the shift keeps, and the rounding.
-use Rattle.std.proofs.Common.{◌≡◌, ℕ, zero, suc, ◌+◌, ◌-◌, ◌*◌, ◌/◌, ◌%◌, ◌<◌, ◌≤◌, ◌⊎◌, sym, refl, ap, inl, inr, ⊎_elim, le_trans, mul-le-mul_right, mod-lt, mod-eq_of_lt, mul-le-mul, mul-le-mul_left, mul-pos, div-mul-le_self, arith}
-use native.Mathlib.Omega.{sub_cases, by_contra}
-use native.Mathlib.Nat.{div-add-mod, lt-div-mul-add, div-eq_of_lt, add-mul-mod_self_left, div-eq_of_lt-le}
-use Rattle.rootlaws.specs.Words.{top, units, Rec, Near, High, Range, Fits, Final, Kept, less, diff0, diff1}
+use Rattle.std.proofs.Common.{◌≡◌, ℕ, zero, suc, ◌+◌, ◌-◌, ◌*◌, ◌/◌, ◌%◌, ◌<◌, ◌≤◌, ap, le_trans, mul-le-mul_right, mod-lt, mul-le-mul, mul-le-mul_left, mul-pos, div-mul-le_self, arith}
+use native.Mathlib.Omega.{by_contra}
+use native.Mathlib.Nat.{div-add-mod, lt-div-mul-add, div-eq_of_lt, div-eq_of_lt-le}
+use Rattle.rootlaws.specs.Words.{top, units, Rec, Near, Range, Final, Kept, diff0, diff1}
 use Rattle.rootlaws.specs.Whole.{Nearest}
-use Rattle.rootlaws.proofs.Square.{cancel, cancel<, square, cubic, under, over, ways}
+use Rattle.rootlaws.proofs.Square.{cancel, cancel<, over, ways}
 use Rattle.rootlaws.proofs.Digits.{same_mod}
 
 -- 64 ρ ≥ 31 W

@@ -1,11 +1,11 @@
 -- The three layouts: their numbers, computed, and the whole chain from the table to the rounded root.
-use Rattle.std.proofs.Common.{◌≡◌, ℕ, zero, suc, ◌+◌, ◌-◌, ◌*◌, ◌/◌, ◌%◌, ◌^◌, ◌<◌, ◌≤◌, Bool, true, false, cond, T, ltb, leb, ◌⊎◌, sym, refl, ap, ◌∙◌, subst, inl, inr, ⊎_elim, le_trans, le_of_suc-le-suc, not-suc-le-zero, mul_comm, mul-le-mul, eq-or-lt_of_le, mul-le-mul_left, arith, lit<, lit≤, ltb→lt, leb→le}
-use native.Mathlib.Omega.{sub_cases, by_contra}
-use Rattle.rootlaws.specs.Words.{top, units, Rec, Near, High, Range, Fits, Final, Kept, diff1}
+use Rattle.std.proofs.Common.{◌≡◌, ℕ, zero, suc, ◌+◌, ◌-◌, ◌*◌, ◌/◌, ◌%◌, ◌^◌, ◌<◌, ◌≤◌, Bool, true, false, T, ltb, sym, refl, subst, ⊎_elim, le_of_suc-le-suc, not-suc-le-zero, mul_comm, eq-or-lt_of_le, arith, lit<, lit≤, ltb→lt}
+use native.Mathlib.Omega.{by_contra}
+use Rattle.rootlaws.specs.Words.{Rec, High, Fits, Final, Kept}
 use Rattle.rootlaws.specs.Whole.{Nearest}
-use Rattle.rootlaws.specs.Table.{guess, index}
+use Rattle.rootlaws.specs.Table.{guess}
 use Rattle.width.specs.Product.{exact, halves}
-use Rattle.rootlaws.specs.Gold.{Turn, doubles, moved, fac_of, root_of, raw, turn, turns, begin, gold}
+use Rattle.rootlaws.specs.Gold.{raw, turn, begin}
 use Rattle.rootlaws.specs.Layouts.{kept16, kept32, half64, kept64, answer, Root16, Root32, Root64}
 use Rattle.rootlaws.proofs.Start.{exact_high, halves_high_word, start, widen, both, both_left, both_right}
 use Rattle.rootlaws.proofs.Chain.{two, three, reciprocal, past_one, past_two}

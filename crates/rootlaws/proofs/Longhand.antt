@@ -1,12 +1,10 @@
 -- The root by longhand: what one draw keeps, and what is held at the end.
-use Rattle.std.proofs.Common.{◌≡◌, ℕ, zero, suc, ◌+◌, ◌-◌, ◌*◌, ◌/◌, ◌%◌, ◌^◌, ◌<◌, ◌≤◌, Bool, cond, ltb, sym, refl, ap, ◌∙◌, subst, ap₂, le_trans, mod-lt, mod-eq_of_lt, mul-pos, zero-mul, arith}
-use native.Mathlib.Omega.{by_contra}
+use Rattle.std.proofs.Common.{◌≡◌, ℕ, zero, suc, ◌+◌, ◌-◌, ◌*◌, ◌/◌, ◌%◌, ◌^◌, ◌<◌, ◌≤◌, sym, ap, ◌∙◌, subst, ap₂, mod-lt, mod-eq_of_lt, arith}
 use native.Mathlib.Nat.{div-add-mod, add-mod_left, mul-add-mod_self_left, eq_of_mul-eq-mul_right, pow-succ'}
 use Rattle.std.proofs.lemmas.Nat.{pow_pos}
-use Rattle.std.proofs.lemmas.Bool.{lt-ltb, le-ltb}
 use Rattle.rootlaws.specs.Whole.{Nearest}
 use Rattle.rootlaws.specs.Longhand.{Held, Exact}
-use Rattle.rootlaws.proofs.Square.{cancel<, ways}
+use Rattle.rootlaws.proofs.Square.{cancel<}
 use Rattle.rootlaws.proofs.Digits.{same_mod}
 
 pub held_none : (V M : ℕ) → M < 4 * V → Held V M 0 0 0 M

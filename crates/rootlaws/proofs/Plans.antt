@@ -1,11 +1,11 @@
 -- The plans of the layouts, each from its computed numbers.
-use Rattle.std.proofs.Common.{◌≡◌, ℕ, zero, suc, ◌+◌, ◌-◌, ◌*◌, ◌/◌, ◌%◌, ◌^◌, ◌<◌, ◌≤◌, true, false, get_or, sym, refl, ap, ◌∙◌, subst, ap₂, mod-eq_of_lt, arith}
+use Rattle.std.proofs.Common.{◌≡◌, ℕ, ◌*◌, ◌/◌, ◌%◌, ◌^◌, ◌<◌, true, false, get_or, sym, ap, ◌∙◌, subst, mod-eq_of_lt, arith}
 use lib.Ieee.{binary32, binary64}
 use Rattle.width.specs.Product.{exact, halves}
 use Rattle.width.specs.Shape.{shape_of}
-use Rattle.rootlaws.specs.Gold.{begin, turns, gold}
-use Rattle.rootlaws.specs.Layouts.{kept32, half64, kept64}
-use Rattle.rootlaws.specs.Plan.{Plan, first, reciprocal, kept_by, Keeps}
+use Rattle.rootlaws.specs.Gold.{turns, gold}
+use Rattle.rootlaws.specs.Layouts.{half64}
+use Rattle.rootlaws.specs.Plan.{Plan, reciprocal, Keeps}
 use Rattle.rootlaws.specs.Table.{guesses, index, guess}
 use Rattle.rootlaws.specs.Words.{Kept}
 use Rattle.rootlaws.proofs.Layouts.{root32, root64, half_rec}

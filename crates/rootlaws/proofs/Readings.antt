@@ -1,8 +1,8 @@
 -- From the nearest whole root to the nearest float, and that there is only one.
-use Rattle.std.proofs.Common.{◌≡◌, ℕ, zero, suc, ◌+◌, ◌-◌, ◌*◌, ◌/◌, ◌%◌, ◌^◌, ◌<◌, ◌≤◌, Bool, true, false, cond, ltb, ◌⊎◌, sym, refl, ap, ◌∙◌, subst, ap₂, inl, inr, ⊎_elim, le_trans, le_refl, mul-le-mul_right, mod-lt, mul-le-mul, le_antisymm, mul-le-mul_left, mul-pos, div-add-mod', arith}
-use native.Mathlib.Omega.{sub_cases, by_contra}
+use Rattle.std.proofs.Common.{◌≡◌, ℕ, zero, suc, ◌+◌, ◌-◌, ◌*◌, ◌/◌, ◌%◌, ◌^◌, ◌<◌, ◌≤◌, sym, ap, ◌∙◌, subst, ap₂, le_trans, le_refl, mul-le-mul_right, mod-lt, mul-le-mul, le_antisymm, mul-le-mul_left, mul-pos, div-add-mod', arith}
+use native.Mathlib.Omega.{by_contra}
 use native.Mathlib.Decide.{le_ind}
-use native.Mathlib.Nat.{pow-succ', mul-lt-mul_of_pos_left}
+use native.Mathlib.Nat.{pow-succ'}
 use Rattle.std.proofs.lemmas.Nat.{pow_pos, div-mul-add, mod-mul-add}
 use Rattle.std.proofs.lemmas.Bool.{lt-ltb, le-ltb}
 use Rattle.width.specs.Shape.{reading}

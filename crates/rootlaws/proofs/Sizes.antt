@@ -1,8 +1,8 @@
 -- The sizes of a layout's words.
-use Rattle.std.proofs.Common.{◌≡◌, ℕ, zero, suc, ◌+◌, ◌-◌, ◌*◌, ◌^◌, ◌<◌, ◌≤◌, sym, ap, ◌∙◌, mul-le-mul_right, mul-le-mul_left, arith}
+use Rattle.std.proofs.Common.{◌≡◌, ℕ, ◌+◌, ◌*◌, ◌^◌, ◌≤◌, sym, ap, ◌∙◌, mul-le-mul_left, arith}
 use native.Mathlib.Nat.{pow-le-pow_right}
-use Rattle.std.proofs.lemmas.Nat.{pow_pos, pow-add}
-use Rattle.width.specs.Shape.{Shape, Sound, width, bias, sign}
+use Rattle.std.proofs.lemmas.Nat.{pow-add}
+use Rattle.width.specs.Shape.{Shape, Sound, width, sign}
 
 pub word_range : (S : Shape) → 2 ^ width S ≡ 4 * 2 ^ (S.sig + S.half)
 word_range S = pow-add 2 (S.sig + S.half) 2 ∙ turn (2 ^ (S.sig + S.half))

@@ -1,11 +1,11 @@
 -- The root of a positive pattern, from the roots of words.
-use Rattle.std.proofs.Common.{◌≡◌, ℕ, zero, suc, ◌+◌, ◌-◌, ◌*◌, ◌/◌, ◌%◌, ◌^◌, ◌<◌, ◌≤◌, Bool, true, false, cond, eqb, ltb, ◌⊎◌, sym, refl, ap, ◌∙◌, subst, ap₂, subst₂, inl, inr, ⊎_elim, le_trans, mul-le-mul_right, mod-lt, mul_assoc, div-add-mod', mul-one, arith}
+use Rattle.std.proofs.Common.{◌≡◌, ℕ, zero, suc, ◌+◌, ◌-◌, ◌*◌, ◌/◌, ◌%◌, ◌^◌, ◌<◌, ◌≤◌, sym, refl, ap, ◌∙◌, subst, ap₂, subst₂, inl, inr, ⊎_elim, le_trans, mul-le-mul_right, mod-lt, mul_assoc, div-add-mod', mul-one, arith}
 use native.Mathlib.Omega.{by_contra}
 use native.Mathlib.Nat.{eq_of_mul-eq-mul_right, pow-succ', pow-le-pow_right}
 use lib.Count.{count_leading_zeros}
 use Rattle.std.proofs.lemmas.Nat.{pow_pos, pow-add, leading_top, div_below}
 use Rattle.std.proofs.lemmas.Bool.{lt-ltb, le-ltb, eq-eqb, ne_eqb, cases_eq}
-use Rattle.width.specs.Shape.{Shape, Sound, bias, infinity, width, reading}
+use Rattle.width.specs.Shape.{Shape, Sound, bias, infinity, reading}
 use Rattle.rootlaws.specs.Whole.{Nearest}
 use Rattle.rootlaws.specs.Roots.{Between, target}
 use Rattle.rootlaws.specs.Split.{shift_of, sig_of, exp_of, word_of, joined, lift}

@@ -1,12 +1,11 @@
 -- The products, the table, and where a set of rounds starts.
-use Rattle.std.proofs.Common.{◌≡◌, ℕ, zero, suc, ◌+◌, ◌-◌, ◌*◌, ◌/◌, ◌%◌, ◌^◌, ◌<◌, ◌≤◌, Bool, true, false, cond, T, ltb, leb, List, [], ◌∷◌, length, get_or, sym, refl, ap, ◌∙◌, subst, le_trans, le_of_suc-le-suc, not-suc-le-zero, add-zero, add-suc, mul-le-mul_right, mod-lt, div-lt_iff_lt-mul, mul-le-mul, suc-add, mul-le-mul_left, mul-pos, div-add-mod', le-div_iff_mul-le, zero-add, div-mul-le_self, arith, ltb→lt, leb→le}
-use native.Mathlib.Omega.{sub_cases, by_contra}
+use Rattle.std.proofs.Common.{◌≡◌, ℕ, zero, suc, ◌+◌, ◌-◌, ◌*◌, ◌/◌, ◌%◌, ◌^◌, ◌<◌, ◌≤◌, Bool, true, false, T, ltb, leb, List, [], ◌∷◌, length, get_or, sym, refl, ap, ◌∙◌, subst, le_trans, le_of_suc-le-suc, not-suc-le-zero, add-zero, add-suc, mul-le-mul_right, mod-lt, div-lt_iff_lt-mul, mul-le-mul, suc-add, mul-le-mul_left, div-add-mod', zero-add, div-mul-le_self, arith, ltb→lt, leb→le}
 use native.Mathlib.Nat.{div-add-mod, lt-div-mul-add, mul-add-div_right, mul-div-mul_right}
-use Rattle.std.proofs.lemmas.Bool.{ltb-true, ltb-false, lt-ltb, le-ltb}
-use Rattle.rootlaws.specs.Words.{top, units, Rec, Near, High, Range, Fits}
+use Rattle.std.proofs.lemmas.Bool.{lt-ltb, le-ltb}
+use Rattle.rootlaws.specs.Words.{Rec, Near, High}
 use Rattle.rootlaws.specs.Table.{guesses, low, high, index, guess, Close}
 use Rattle.width.specs.Product.{exact, halves}
-use Rattle.rootlaws.proofs.Square.{cancel, cancel<, square, ways}
+use Rattle.rootlaws.proofs.Square.{cancel<, ways}
 
 -- the exact product
 pub exact_high : (V x y : ℕ) → 0 < V → High V 1 x y (exact V x y)

@@ -1,5 +1,5 @@
 -- Goldschmidt's iteration on naturals, in words of range 4 V, over a product m for the high word.
-use Rattle.std.specs.Prelude.{◌≡◌, ℕ, zero, suc, ◌+◌, ◌-◌, ◌*◌, ◌/◌, ◌%◌, ◌^◌, ◌<◌, ◌≤◌, Bool, true, false, cond, not, ◌&&◌, ◌||◌, nat_lt}
+use Rattle.std.specs.Prelude.{ℕ, zero, suc, ◌+◌, ◌-◌, ◌*◌, ◌%◌, Bool, cond, not, ◌&&◌, ◌||◌, nat_lt}
 
 -- what one turn holds: the reciprocal, the root, and the factor
 pub record Turn : Type 0 where

@@ -1,10 +1,10 @@
 -- The three layouts: the words of the iteration, the shift, and the answer.
-use Rattle.std.specs.Prelude.{◌≡◌, ℕ, ◌+◌, ◌-◌, ◌*◌, ◌/◌, ◌%◌, ◌^◌, ◌<◌, ◌≤◌, Bool, true, false}
+use Rattle.std.specs.Prelude.{ℕ, ◌+◌, ◌*◌, ◌/◌, ◌^◌, ◌<◌, ◌≤◌, true, false}
 use Rattle.rootlaws.specs.Whole.{Nearest}
 use Rattle.rootlaws.specs.Words.{diff1, Kept}
 use Rattle.rootlaws.specs.Table.{guess}
-use Rattle.width.specs.Product.{exact, halves}
-use Rattle.rootlaws.specs.Gold.{Turn, gold}
+use Rattle.width.specs.Product.{exact}
+use Rattle.rootlaws.specs.Gold.{gold}
 
 -- the digits kept of the root of M
 abbrev pub kept16 : ℕ → ℕ

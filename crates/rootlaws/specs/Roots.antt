@@ -1,5 +1,5 @@
 -- What a nearest root is.
-use Rattle.std.specs.Prelude.{◌≡◌, ℕ, zero, suc, ◌+◌, ◌-◌, ◌*◌, ◌/◌, ◌%◌, ◌^◌, ◌<◌, ◌≤◌, true, false, T, from_bits, to_bits, Float}
+use Rattle.std.specs.Prelude.{◌≡◌, ℕ, zero, suc, ◌+◌, ◌-◌, ◌*◌, ◌/◌, ◌%◌, ◌^◌, ◌<◌, true, false, T, from_bits, to_bits, Float}
 use Rattle.std.specs.Float.{Format, nan, inf, fin}
 use Rattle.std.specs.Float.Ieee.{up, down, low, lt, fits}
 use Rattle.std.specs.Float as Floats

@@ -1,5 +1,5 @@
 -- A positive pattern taken apart: its significand with a leading one, its exponent, and the word whose root is drawn.
-use Rattle.std.specs.Prelude.{◌≡◌, ℕ, suc, ◌+◌, ◌-◌, ◌*◌, ◌/◌, ◌%◌, ◌^◌, ◌<◌, ◌≤◌, Bool, cond, ◌==◌, nat_lt}
+use Rattle.std.specs.Prelude.{◌≡◌, ℕ, suc, ◌+◌, ◌-◌, ◌*◌, ◌/◌, ◌%◌, ◌^◌, ◌<◌, cond, ◌==◌, nat_lt}
 use Rattle.std.specs.Int.Count.{count_leading_zeros}
 use Rattle.width.specs.Shape.{Shape, width, bias, infinity}
 

@@ -1,6 +1,6 @@
 -- The words of the argument on Goldschmidt's iteration. V is a quarter of the word's range W = 4 V, and the scaled target is N = V W².
 -- Every error is counted in units of W².
-use Rattle.std.specs.Prelude.{ℕ, ◌+◌, ◌-◌, ◌*◌, ◌/◌, ◌%◌, ◌<◌, ◌≤◌}
+use Rattle.std.specs.Prelude.{ℕ, ◌+◌, ◌-◌, ◌*◌, ◌%◌, ◌<◌, ◌≤◌}
 
 -- N = V W²
 abbrev pub top : ℕ → ℕ

@@ -1,6 +1,6 @@
 -- What has a pattern, and which.
-use Rattle.std.proofs.Common.{◌≡◌, ℕ, ◌*◌, ◌^◌, ◌<◌, Bool, true, false, T, sym, refl, subst}
-use lib.Ieee.{Float, Format, binary32, binary64, nan, inf, fin, is_nan, fits, of_bits, to_bits, top}
+use Rattle.std.proofs.Common.{◌≡◌, ◌*◌, ◌^◌, ◌<◌, Bool, true, false, T, refl}
+use lib.Ieee.{Float, Format, binary32, binary64, nan, inf, fin, is_nan, fits, to_bits, top}
 use lib.Ieee.Bits.{of_bits-to_bits, to_bits-lt}
 use Rattle.width.specs.Shape.{shape_of, width}
 use Rattle.width.specs.Pattern.{PatternOf}

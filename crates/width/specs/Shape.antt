@@ -1,5 +1,5 @@
 -- The shape of a pattern: a sign bit, then the exponent field, then the stored bits of the significand.
-use Rattle.std.specs.Prelude.{◌≡◌, ℕ, suc, ◌+◌, ◌-◌, ◌*◌, ◌/◌, ◌%◌, ◌^◌, ◌<◌, ◌≤◌, Bool, cond, nat_lt}
+use Rattle.std.specs.Prelude.{ℕ, ◌+◌, ◌-◌, ◌*◌, ◌/◌, ◌%◌, ◌^◌, ◌≤◌, cond, nat_lt}
 use Rattle.std.specs.Float.{Format, binary32, binary64}
 
 -- `sig` bits of the significand are stored; the bias is 2 ^ half - 1, and the exponent field has half + 1 bits

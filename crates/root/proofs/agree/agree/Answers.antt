@@ -1,4 +1,4 @@
-use Rattle.std.proofs.Common.{◌≡◌, ℕ, suc, length, sym, refl, ap, ◌∙◌, add-one, arith}
+use Rattle.std.proofs.Common.{◌≡◌, ℕ, length, sym, refl, ap, ◌∙◌, add-one, arith}
 use Rattle.root.specs.Count.{raised, raised_by}
 use Rattle.root.proofs.Runs.{one_run}
 use Rattle.root.proofs.agree.agree.Goals as goal

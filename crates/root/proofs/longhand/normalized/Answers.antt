@@ -1,5 +1,5 @@
-use Rattle.std.proofs.Common.{◌≡◌, ℕ, ◌+◌, ◌/◌, ◌%◌, ◌^◌, ◌<◌, ◌≤◌, sym, ap, ◌∙◌, subst, arith, ltb-false, ltb-true}
-use lib.Bits.{bit_and, bit_or}
+use Rattle.std.proofs.Common.{◌+◌, ◌/◌, ◌%◌, ◌^◌, ◌<◌, ◌≤◌, sym, ap, ◌∙◌, subst, arith, ltb-false, ltb-true}
+use lib.Bits.{bit_or}
 use Rattle.root.proofs.Normal.{bias_small, zeros_enough, sig_small, exp_small_is, sig_large, field_small, exp_large_is}
 use Rattle.root.proofs.longhand.normalized.Goals as goal
 

@@ -1,6 +1,6 @@
-use Rattle.std.proofs.Common.{◌≡◌, ◌+◌, ◌*◌, ◌/◌, ◌%◌, ◌^◌, ◌<◌, ◌≤◌, sym, ap, ◌∙◌, subst, ap₂}
-use lib.Bits.{bit_and, bit_or}
-use Rattle.rootlaws.specs.Split.{exp_of, sig_of, word_of, lift}
+use Rattle.std.proofs.Common.{◌+◌, ◌*◌, ◌/◌, ◌%◌, ◌^◌, ◌<◌, ◌≤◌, sym, ap, ◌∙◌, subst, ap₂}
+use lib.Bits.{bit_or}
+use Rattle.rootlaws.specs.Split.{exp_of, word_of, lift}
 use Rattle.rootlaws.specs.Whole.{Nearest}
 use Rattle.rootlaws.proofs.Split.{sig_range, word_range}
 use Rattle.root.proofs.Classes.{joined_is, word_root}

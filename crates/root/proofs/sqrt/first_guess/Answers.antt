@@ -1,4 +1,4 @@
-use Rattle.std.proofs.Common.{◌≡◌, ◌-◌, ◌*◌, ◌/◌, ◌%◌, ◌^◌, get_or, ap, ◌∙◌, ap₂}
+use Rattle.std.proofs.Common.{◌-◌, ◌*◌, ◌/◌, ◌%◌, ◌^◌, get_or, ap, ◌∙◌, ap₂}
 use Rattle.rootlaws.specs.Table.{guesses}
 use Rattle.root.proofs.Ported.{guess_word, index_low}
 use Rattle.root.proofs.sqrt.first_guess.Goals as goal

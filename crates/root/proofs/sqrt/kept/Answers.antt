@@ -1,4 +1,4 @@
-use Rattle.std.proofs.Common.{◌≡◌, ◌-◌, ◌*◌, ◌/◌, ◌%◌, ◌^◌, true, false, refl, ap, ◌∙◌, ap₂}
+use Rattle.std.proofs.Common.{◌-◌, ◌^◌, true, false, ◌∙◌, ap₂}
 use Rattle.rootlaws.specs.Gold.{gold}
 use Rattle.rootlaws.specs.Plan.{Plan}
 use Rattle.root.proofs.Ported.{kept_word}

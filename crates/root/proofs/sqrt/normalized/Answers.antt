@@ -1,5 +1,4 @@
-use Rattle.std.proofs.Common.{◌+◌, ◌-◌, ◌*◌, ◌%◌, ◌^◌, refl, ap, ◌∙◌, ap₂}
-use lib.Count.{count_leading_zeros}
+use Rattle.std.proofs.Common.{◌+◌, ◌-◌, ◌*◌, ◌%◌, ◌^◌, refl, ap, ◌∙◌}
 use Rattle.root.proofs.Normal.{zeros_enough, shift_is}
 use Rattle.root.proofs.Ported.{stored_subnormal}
 use Rattle.root.proofs.sqrt.normalized.Goals as goal

@@ -1,5 +1,4 @@
-use Rattle.std.proofs.Common.{◌≡◌, ℕ, ◌+◌, ◌-◌, ◌*◌, ◌/◌, ◌%◌, ◌^◌, sym, ap, ◌∙◌, ap₂}
-use lib.Bits.{bit_or}
+use Rattle.std.proofs.Common.{◌+◌, ◌*◌, ◌/◌, ◌%◌, ◌^◌, ap, ◌∙◌, ap₂}
 use Rattle.root.proofs.Ported.{word_even_shifted, word_odd_shifted}
 use Rattle.root.proofs.sqrt.reduced_shifted.Goals as goal
 

@@ -1,4 +1,4 @@
-use Rattle.std.proofs.Common.{◌/◌, ◌%◌, ◌^◌, refl, ap, ◌∙◌}
+use Rattle.std.proofs.Common.{◌%◌, ◌^◌, refl, ap, ◌∙◌}
 use Rattle.root.proofs.Ported.{special_in_place, special_shifted}
 use Rattle.root.proofs.sqrt.special_case.Goals as goal
 
