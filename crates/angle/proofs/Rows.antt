@@ -3,7 +3,7 @@ use Rattle.std.proofs.Common.{◌≡◌, ℕ, Bool, true, eqb, sym, refl, ap, �
 use lib.Ieee.{Float, Format, binary32, binary64, is_nan, of_bits, to_bits, mul, div}
 use lib.Ieee.Bits.{of_bits-fits}
 use Rattle.std.specs.Float.{sqrt, is_sign_negative}
-use Rattle.std.specs.List.{AllByRecursion as All}
+use Rattle.std.specs.List.{AllByRecursion}
 use Rattle.std.proofs.lemmas.Bool.{eq-eqb}
 use Rattle.root.specs.Known as Roots
 use Rattle.root.proofs.Rows as RootsKnown
@@ -42,7 +42,7 @@ narrow_upright : Atan2.atan2 binary32 (of_bits binary32 0x3f800000) (of_bits bin
 unfolding is_nan is_sign_negative top_word low_word to_bits of_bits div
 narrow_upright = refl
 
-pub known_rows : All Known rows
+pub known_rows : AllByRecursion Known rows
 known_rows =
     let k = RootsKnown.known_rows in (
       root _ k.0,

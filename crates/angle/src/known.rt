@@ -1,7 +1,7 @@
 // A trial of the build on answers that are known from elsewhere.
 ghost use Rattle.std.specs.Prelude.{◌≡◌, true, ◌==◌, from_bits, to_bits};
 ghost use Rattle.std.specs.Float.{binary32, binary64};
-ghost use Rattle.std.specs.List.{AllByRecursion as All};
+ghost use Rattle.std.specs.List.{AllByRecursion};
 ghost use Rattle.anglelaws.specs.Asked.{FromHalf};
 ghost use Rattle.anglelaws.specs.Known.{rows, Known};
 
@@ -65,7 +65,7 @@ fn known_angles() -> bool
 /// Asks for the known answers, the roots from the ported unit. That each comes as stated is proved, so an answer `false` means that
 /// the program was not built as it is written. When a root unit is asked is proved here too.
 pub fn known_answers() -> bool
-    ensures rows { All Known rows }
+    ensures rows { AllByRecursion Known rows }
     ensures asked { FromHalf }
     ensures come { result ≡ true }
 {

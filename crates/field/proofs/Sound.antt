@@ -1,6 +1,6 @@
 -- A line that is read as two numbers writes two numbers.
 use Rattle.std.proofs.Common.{◌≡◌, ℕ, ◌-◌, ◌<◌, Bool, T, List, [], ◌∷◌, ◌++◌, length, is_some, refl, ap, subst, arith}
-use Rattle.std.specs.List.{AllByRecursion as All}
+use Rattle.std.specs.List.{AllByRecursion}
 use Rattle.field.specs.declared.line.Reading.{Reading}
 use Rattle.field.specs.declared.line.Reading.TheVariants.{Before, First, Between, Second, After, Broken}
 use Rattle.field.specs.Pair.{blank, digit, Blanks, value_of, Writes}
@@ -13,11 +13,11 @@ Ends r bs = T (is_some (pair_of (after r bs)))
 
 -- bs is any number of bytes that pass p, and then bytes of which Q holds
 abbrev Any : (ℕ → Bool) → (List ℕ → Type 0) → List ℕ → Type 0
-Any p Q bs = (xs : List ℕ) × (ys : List ℕ) × (bs ≡ xs ++ ys) × All (λ c. T (p c)) xs × Q ys
+Any p Q bs = (xs : List ℕ) × (ys : List ℕ) × (bs ≡ xs ++ ys) × AllByRecursion (λ c. T (p c)) xs × Q ys
 
 -- the same, and at least one byte passes p
 abbrev Many : (ℕ → Bool) → (List ℕ → Type 0) → List ℕ → Type 0
-Many p Q bs = (xs : List ℕ) × (ys : List ℕ) × (bs ≡ xs ++ ys) × (All (λ c. T (p c)) xs × (0 < length xs)) × Q ys
+Many p Q bs = (xs : List ℕ) × (ys : List ℕ) × (bs ≡ xs ++ ys) × (AllByRecursion (λ c. T (p c)) xs × (0 < length xs)) × Q ys
 
 any_none : (p : ℕ → Bool) (Q : List ℕ → Type 0) (bs : List ℕ) → Q bs → Any p Q bs
 any_none p Q bs q = ([], bs, refl, tt, q)

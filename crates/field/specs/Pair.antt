@@ -1,7 +1,7 @@
 -- What a line of bytes writes: two whole numbers with blanks between them. More blanks may stand before and after them.
 use Rattle.std.specs.Prelude.{◌≡◌, ℕ, ◌-◌, ◌<◌, Bool, ◌&&◌, ◌||◌, T, List, ◌++◌, map, length, Some, ◌==◌, nat_le}
 use Rattle.std.specs.Int.Digits.{number_from_digits}
-use Rattle.std.specs.List.{AllByRecursion as All}
+use Rattle.std.specs.List.{AllByRecursion}
 use Rattle.field.specs.declared.refusal.Refusal.{Refusal}
 use Rattle.field.specs.declared.refusal.Refusal.TheVariants.{NotPair, NoSide, TooLong}
 use Rattle.field.specs.Field.{fault_of}
@@ -15,10 +15,10 @@ abbrev pub digit : ℕ → Bool
 digit c = nat_le 48 c && nat_le c 57
 
 abbrev pub Blanks : List ℕ → Type 0
-Blanks cs = All (λ c. T (blank c)) cs
+Blanks cs = AllByRecursion (λ c. T (blank c)) cs
 
 abbrev pub Digits : List ℕ → Type 0
-Digits cs = All (λ c. T (digit c)) cs
+Digits cs = AllByRecursion (λ c. T (digit c)) cs
 
 -- the number that digits write, in base ten
 abbrev pub value_of : List ℕ → ℕ

@@ -3,7 +3,7 @@ use Rattle.std.proofs.Common.{◌≡◌, ℕ, suc, ◌+◌, ◌-◌, ◌*◌, �
 use lib.Count.{count_trailing_zeros}
 use lib.Ieee.{Float, of_bits, of_fields, to_bits, odd, size, span, climb}
 use lib.Ieee.Fits.{and_l, and_r}
-use Rattle.std.specs.List.{AllByRecursion as All}
+use Rattle.std.specs.List.{AllByRecursion}
 use Rattle.width.specs.Shape.{Shape, shape_of, width, infinity, quiet, reading}
 use Rattle.rootlaws.specs.Roots.{RootBits, target, NearestRoot}
 use Rattle.rootlaws.proofs.Floats.{bits_root, one_root}
@@ -65,24 +65,24 @@ abbrev all_pass : List Row → Bool
 all_pass [] = true
 all_pass (w ∷ ws) = row_ok w && all_pass ws
 
-all_known : (ws : List Row) → T (all_pass ws) → All Known ws
+all_known : (ws : List Row) → T (all_pass ws) → AllByRecursion Known ws
 all_known [] t = tt
 all_known (w ∷ ws) t = (row_known w (and_l (row_ok w) (all_pass ws) t), all_known ws (and_r (row_ok w) (all_pass ws) t))
 
-pub known_rows : All Known rows
+pub known_rows : AllByRecursion Known rows
 known_rows = all_known rows tt
 
 -- a root that comes has the row's pattern
 abbrev Told : Row → Type 0
 Told w = (s : Float) → NearestRoot w.format (of_bits w.format w.of) s → to_bits w.format s ≡ w.root
 
-pattern_back : All (λ w. to_bits w.format (of_bits w.format w.root) ≡ w.root) rows
+pattern_back : AllByRecursion (λ w. to_bits w.format (of_bits w.format w.root) ≡ w.root) rows
 unfolding to_bits of_bits of_fields odd size span climb count_trailing_zeros
 pattern_back = (refl, (refl, (refl, (refl, (refl, (refl, tt))))))
 
-all_told : (ws : List Row) → All Known ws → All (λ w. to_bits w.format (of_bits w.format w.root) ≡ w.root) ws → All Told ws
+all_told : (ws : List Row) → AllByRecursion Known ws → AllByRecursion (λ w. to_bits w.format (of_bits w.format w.root) ≡ w.root) ws → AllByRecursion Told ws
 all_told [] k b = tt
 all_told (w ∷ ws) k b = (λ s h. ap (to_bits w.format) (k.0.only s h) ∙ b.0, all_told ws k.1 b.1)
 
-pub told_rows : All Told rows
+pub told_rows : AllByRecursion Told rows
 told_rows = all_told rows known_rows pattern_back

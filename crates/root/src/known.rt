@@ -1,7 +1,7 @@
 // A trial of a root unit on roots that are known from elsewhere.
 ghost use Rattle.std.specs.Prelude.{◌≡◌, true, length, from_bits, to_bits, Float};
 ghost use Rattle.std.specs.Float.{binary32, binary64};
-ghost use Rattle.std.specs.List.{AllByRecursion as All};
+ghost use Rattle.std.specs.List.{AllByRecursion};
 ghost use Rattle.rootlaws.specs.Roots.{NearestRoot, OneRoot};
 ghost use Rattle.root.specs.Count.{raised, raised_by};
 ghost use Rattle.root.specs.Known.{rows, Known};
@@ -30,7 +30,7 @@ fn narrow_is<U: RootUnit>(unit: &mut U, of: u32, root: u32) -> bool
 /// that the program was not built as it is written. That a number has no second nearest root is
 /// proved here too.
 pub fn known_roots<U: RootUnit>(unit: &mut U) -> bool
-    ensures rows { All Known rows }
+    ensures rows { AllByRecursion Known rows }
     ensures one { OneRoot }
     ensures come { result ≡ true }
     ensures counted { U.RootUnit.count unit.new ≡ raised_by (length rows) (U.RootUnit.count unit.old) }
