@@ -26,7 +26,7 @@ if [ "$1" = list ]; then
     [ $# = 1 ] && [ -z "$library" ] || usage
     program=list
 elif [ -z "$library" ]; then
-    (cd "$root" && rt staticlib exports) >&2
+    "$root/tools/staticlib.sh" >&2
     library=$root/target/staticlib/libexports.a
 fi
 [ $program = list ] || [ -f "$library" ] || { echo "run.sh: no file $library" >&2; exit 2; }
