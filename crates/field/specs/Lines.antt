@@ -1,5 +1,5 @@
 -- How a line is read, byte by byte.
-use Rattle.std.specs.Prelude.{ℕ, ◌+◌, ◌-◌, ◌*◌, ◌≤◌, min, cond, List, Some, None, fold, Option}
+use Rattle.std.specs.Prelude.{ℕ, ◌+◌, ◌-◌, ◌*◌, min, cond, List, Some, None, fold, Option}
 use Rattle.field.specs.declared.line.Reading.{Reading}
 use Rattle.field.specs.declared.line.Reading.TheVariants.{Before, First, Between, Second, After, Broken}
 use Rattle.field.specs.Field.{longest}
@@ -12,14 +12,6 @@ capped n = min n (longest + 1)
 -- one more digit
 abbrev pub longer : ℕ → ℕ → ℕ
 longer n d = capped (n * 10 + d)
-
-abbrev pub Small : Reading → Type 0
-Small Before = Unit {0}
-Small (First a) = a ≤ longest + 1
-Small (Between a) = a ≤ longest + 1
-Small (Second a b) = (a ≤ longest + 1) × (b ≤ longest + 1)
-Small (After a b) = (a ≤ longest + 1) × (b ≤ longest + 1)
-Small Broken = Unit {0}
 
 abbrev pub after_blank : Reading → Reading
 after_blank Before = Before

@@ -1,16 +1,18 @@
-use Rattle.std.proofs.Common.{◌≡◌, Some, sym}
-use Rattle.std.proofs.lemmas.Result.{MatchResult-weaker}
+use Rattle.std.proofs.Common.{◌≡◌, Some, Err}
+use Rattle.std.specs.Option.{ok_or}
+use Rattle.std.proofs.lemmas.Result.{err_from_is_err_and}
+use Rattle.field.specs.declared.refusal.Refusal.TheVariants.{NotPair}
 use Rattle.field.specs.Lines.{read}
-use Rattle.field.proofs.Outcome.{none_written, sides_written, fault_written}
+use Rattle.field.proofs.Outcome.{none_refused, sides_outcome}
 use Rattle.field.proofs.line.sides_of.Goals as goal
 
-pub returns-in-Some : goal.returns-in-Some
-returns-in-Some c =
-    let bs = c.args.line.now in
-    let a = c.in-Some.a in
-    let b = c.in-Some.b in
-    let e : read bs ≡ Some (a, b) = sym c.in-Some.ensures in
-    MatchResult-weaker c.new.result c.new.ensures (λ s h. rw (h.1, h.2) (sides_written bs a b e h.0)) (fault_written bs a b e)
+pub returns-in_err-length : goal.returns-in_err-length
+returns-in_err-length c =
+    let none : ok_or (read c.args.line.now) NotPair ≡ Err c.in_err-length.field-0.0 = cc c.in_err-length.was in
+    let err = err_from_is_err_and c.from_residual.result c.from_residual.ensures.1 in
+    rw (err.1, err.2) (none_refused c.args.line.now _ none)
 
-pub returns-in-None : goal.returns-in-None
-returns-in-None c = none_written c.args.line.now (sym c.in-None.ensures)
+pub returns : goal.returns
+returns c =
+    let some : read c.args.line.now ≡ Some (c.in_ok-length.length, c.in_ok-length.breadth) = cc c.in_ok-length.ensures.ok_part in
+    sides_outcome c.args.line.now _ _ c.new.result some c.new.ensures
