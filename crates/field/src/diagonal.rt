@@ -1,5 +1,5 @@
 // The diagonal of a field.
-ghost use Rattle.std.specs.Prelude.{◌≡◌, ℕ, ◌+◌, ◌*◌, ◌^◌, ◌≤◌, pos};
+ghost use Rattle.std.specs.Prelude.{◌≡◌, ◌+◌, ◌*◌, pos};
 ghost use Rattle.std.specs.Float.Ieee.{of_int, to_unsigned};
 ghost use Rattle.std.specs.Float.{float_round, binary64};
 ghost use Rattle.root.specs.Count.{raised};
@@ -16,28 +16,13 @@ pub struct Reach {
     pub millimetres: u64,
 }
 
-fn square(side: u64) -> u64
-    requires { side ≤ 2 ^ 26 }
-    ensures value { result ≡ side * side }
-    ensures bound { result ≤ 2 ^ 52 }
-{
-    side * side
-}
-
-fn sum_of_squares(sides: Sides) -> u64
-    ensures value { result ≡ sides.length * sides.length + sides.breadth * sides.breadth }
-    ensures bound { result ≤ 2 ^ 53 }
-{
-    square(sides.length()) + square(sides.breadth())
-}
-
 /// The diagonal of a field, by one root asked of the unit.
 pub fn diagonal<U: RootUnit>(unit: &mut U, sides: Sides) -> Reach
     ensures nearest { NearestRoot binary64 (of_int binary64 (pos (sides.length * sides.length + sides.breadth * sides.breadth))) result.reach }
     ensures rounded { result.millimetres ≡ to_unsigned 64 (float_round binary64 result.reach) }
     ensures counted { U.RootUnit.count unit.new ≡ raised (U.RootUnit.count unit.old) }
 {
-    let reach = unit.wide_root(sum_of_squares(sides) as f64);
+    let reach = unit.wide_root(sides.sum_of_squares() as f64);
     let millimetres = saturating_f64_to_u64(reach.round());
     Reach { reach, millimetres }
 }

@@ -1,7 +1,9 @@
 // Why a line has no diagonal.
+use crate::sides::Sides;
+use std::error::Error;
 use std::fmt;
 
-#[derive(Clone, Copy, Debug, PartialEq)]
+#[derive(Clone, Copy, Debug, PartialEq, Eq, Hash)]
 pub enum Refusal {
     /// The line is not two whole numbers with blanks between them.
     NotPair,
@@ -18,8 +20,11 @@ impl fmt::Display for Refusal {
             Refusal::NoSide => write!(f, "a side of 0"),
             Refusal::TooLong => write!(
                 f,
-                "a side above 67108864 mm: the squares would not be exact"
+                "a side above {} mm: the squares would not be exact",
+                Sides::LONGEST
             ),
         }
     }
 }
+
+impl Error for Refusal {}

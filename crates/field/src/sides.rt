@@ -1,6 +1,6 @@
 // The sides of a field.
-ghost use Rattle.std.specs.Prelude.{◌≡◌, ℕ, ◌<◌, ◌≤◌, Some, None, MatchResult};
-ghost use Rattle.field.specs.Field.{fault_of};
+ghost use Rattle.std.specs.Prelude.{◌≡◌, ℕ, ◌+◌, ◌*◌, ◌^◌, ◌<◌, ◌≤◌, Some, None, MatchResult};
+ghost use Rattle.field.specs.Field.{longest, fault_of};
 
 use crate::refusal::Refusal;
 
@@ -11,7 +11,7 @@ pub struct Sides {
     length: u64,
     breadth: u64,
     ghost some: { (0 < length) × (0 < breadth) },
-    ghost exact: { (length ≤ 67108864) × (breadth ≤ 67108864) },
+    ghost exact: { (length ≤ longest) × (breadth ≤ longest) },
 }
 
 impl Sides {
@@ -31,15 +31,23 @@ impl Sides {
 
     pub fn length(self) -> u64
         ensures value { result ≡ self.length }
-        ensures bound { (0 < result) × (result ≤ 67108864) }
+        ensures bound { (0 < result) × (result ≤ longest) }
     {
         self.length
     }
 
     pub fn breadth(self) -> u64
         ensures value { result ≡ self.breadth }
-        ensures bound { (0 < result) × (result ≤ 67108864) }
+        ensures bound { (0 < result) × (result ≤ longest) }
     {
         self.breadth
+    }
+
+    pub(crate) fn sum_of_squares(self) -> u64
+        ensures value { result ≡ self.length * self.length + self.breadth * self.breadth }
+        ensures bound { result ≤ 2 ^ 53 }
+    {
+        let Sides { length, breadth } = self;
+        length * length + breadth * breadth
     }
 }
