@@ -1,5 +1,5 @@
 -- What the two numbers that a line is read as say of the line.
-use Rattle.std.proofs.Common.{◌≡◌, ℕ, T, List, is_some, Some, None, Err, Option, refl, Result, MatchResult, sym, ap, subst, arith}
+use Rattle.std.proofs.Common.{◌≡◌, ℕ, T, List, is_some, Some, None, Err, Option, refl, Result, MatchResult, sym, ap, subst}
 use Rattle.std.specs.Option.{ok_or}
 use Rattle.std.proofs.lemmas.Result.{MatchResult-weaker}
 use Rattle.field.specs.declared.sides.Sides.{Sides}
