@@ -3,43 +3,44 @@
 
 ghost use Rattle.std.specs.Prelude.{◌≡◌, true};
 
-use anyhow::anyhow;
-use field::diagonal::diagonal;
+use anyhow::ensure;
+use field::diagonal::{Reach, diagonal};
 use field::line::sides_of;
+use field::sides::Sides;
 use root::agree::{Reading, agree};
 use root::known::known_roots;
 use root::unit::{Longhand, Ported, RootUnit};
+use std::io;
 use std::io::{BufRead, BufReader};
 use std::num::f64_to_bits_with_nan;
 
 fn main(rt: HostRuntime) -> anyhow::Result<()> {
-    run(&rt)
-}
-
-fn run(rt: &HostRuntime) -> anyhow::Result<()> {
-    if !trial() {
-        return Err(anyhow!("known roots do not come: this program was not built as it is written"));
-    }
+    ensure!(
+        trial(),
+        "known roots do not come: this program was not built as it is written"
+    );
     let mut unit = Ported::new();
-    let mut number: u64 = 0;
     let mut done: u64 = 0;
-    for line in BufReader::new(rt.alloc(), rt.stdin())?.split(rt.alloc(), b'\n') {
-        number = number.saturating_add(1);
+    let input = BufReader::new(rt.alloc(), rt.stdin())?;
+    for (index, line) in input.split(rt.alloc(), b'\n').enumerate() {
         match sides_of(line?.as_slice()) {
             Ok(sides) => {
-                let (length, breadth) = (sides.length(), sides.breadth());
-                let found = diagonal(&mut unit, sides);
-                let millimetres = found.millimetres;
-                let pattern = f64_to_bits_with_nan(found.reach);
-                println!(rt; "{length} x {breadth}: {millimetres} mm {pattern:016x}")?;
+                print_field(&rt, sides, diagonal(&mut unit, sides))?;
                 done = done.saturating_add(1);
             }
-            Err(refusal) => println!(rt; "line {number}: {refusal}")?,
+            Err(refusal) => println!(rt; "line {}: {refusal}", index.saturating_add(1))?,
         }
     }
     let asked = unit.asked();
     println!(rt; "done {done}, roots asked {asked}")?;
     Ok(())
+}
+
+fn print_field(rt: &impl Print, sides: Sides, found: Reach) -> io::Result<()> {
+    let (length, breadth) = (sides.length(), sides.breadth());
+    let Reach { reach, millimetres } = found;
+    let pattern = f64_to_bits_with_nan(reach);
+    println!(rt; "{length} x {breadth}: {millimetres} mm {pattern:016x}")
 }
 
 // A trial of the build: the known roots, and longhand beside the ported routine.
