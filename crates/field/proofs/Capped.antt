@@ -1,5 +1,5 @@
 -- A number past the longest side counts as one above it. That changes no fault, whatever digits come after.
-use Rattle.std.proofs.Common.{◌≡◌, ℕ, ◌+◌, ◌*◌, ◌<◌, ◌≤◌, eqb, ltb, Some, None, arith}
+use Rattle.std.proofs.Common.{◌≡◌, ℕ, ◌+◌, ◌*◌, ◌<◌, ◌≤◌, Some, None, arith}
 use Rattle.std.proofs.lemmas.Bool.Decides.{nat_tests}
 use Rattle.field.specs.declared.refusal.Refusal.TheVariants.{NotPair}
 use Rattle.field.specs.Field.{longest, fault_of}
@@ -19,17 +19,11 @@ capped_same n m e h = omega arith
 
 -- two numbers have the same fault once capped
 pub fault_capped : (a b : ℕ) → fault_of (capped a) (capped b) ≡ fault_of a b
-fault_capped a b = cc (zero_capped a, zero_capped b, long_capped a, long_capped b)
-  where
-    zero_capped : (n : ℕ) → eqb (capped n) 0 ≡ eqb n 0
-    zero_capped n = grind (arith, nat_tests)
-
-    long_capped : (n : ℕ) → ltb longest (capped n) ≡ ltb longest n
-    long_capped n = grind (arith, nat_tests)
+fault_capped a b = grind (arith, nat_tests)
 
 -- numbers with no fault are no longer than the longest side
 pub fault_none : (a b : ℕ) → fault_of a b ≡ None → (a ≤ longest) × (b ≤ longest)
-fault_none a b e = (grind (arith, nat_tests), grind (arith, nat_tests))
+fault_none a b e = grind (arith, nat_tests)
 
 -- two numbers are never refused as no pair
 pub fault_pair : (a b : ℕ) → fault_of a b ≡ Some NotPair → ⊥

@@ -1,5 +1,5 @@
 -- What the two numbers that a line is read as say of the line.
-use Rattle.std.proofs.Common.{◌≡◌, ℕ, T, List, is_some, Some, None, Err, Option, refl, Result, MatchResult, sym, ap, subst}
+use Rattle.std.proofs.Common.{◌≡◌, ℕ, List, Some, None, Err, Option, refl, Result, MatchResult, ap, subst}
 use Rattle.std.specs.Option.{ok_or}
 use Rattle.std.proofs.lemmas.Result.{MatchResult-weaker}
 use Rattle.field.specs.declared.sides.Sides.{Sides}
@@ -27,7 +27,7 @@ module _ (bs : List ℕ) (x y : ℕ) (e : read bs ≡ Some (x, y)) where
   -- a line that is read as x and y writes two numbers that are x and y once capped
   behind : (a : ℕ) × (b : ℕ) × Writes bs a b × (x ≡ capped a) × (y ≡ capped b)
   behind =
-      let (a, b, w) = written_read bs (subst (λ o. T (is_some o)) (sym e) tt) in
+      let (a, b, w) = written_read bs (rw e) in
       let r = read_written bs a b w in
       let same : ◌≡◌ {A = ℕ × ℕ} (x, y) (capped a, capped b) = cc in
       (a, b, w, ap (λ p. p.0) same, ap (λ p. p.1) same)
@@ -37,7 +37,7 @@ module _ (bs : List ℕ) (x y : ℕ) (e : read bs ≡ Some (x, y)) where
   sides_written f =
       let (a, b, w, p, q) = behind in
       let short = fault_none x y f in
-      subst (λ n. Writes bs n y) (capped_same a x p short.0) (subst (λ n. Writes bs a n) (capped_same b y q short.1) w)
+      rw (capped_same a x p short.0, capped_same b y q short.1) at w
 
   faulty : (why : Refusal) → fault_of x y ≡ Some why → Faulty bs why
   faulty why f = let (a, b, w, p, q) = behind in (a, b, w, cc (fault_capped a b))

@@ -1,5 +1,5 @@
 -- Which sides are refused.
-use Rattle.std.specs.Prelude.{ℕ, cond, ◌||◌, Some, None, Option, ◌==◌, nat_lt}
+use Rattle.std.specs.Prelude.{ℕ, if◌then◌else◌, ◌||◌, Some, None, Option, ◌==◌, nat_lt}
 use Rattle.field.specs.declared.refusal.Refusal.{Refusal}
 use Rattle.field.specs.declared.refusal.Refusal.TheVariants.{NoSide, TooLong}
 
@@ -8,4 +8,4 @@ abbrev pub longest : ℕ
 longest = 67108864
 
 abbrev pub fault_of : ℕ → ℕ → Option Refusal
-fault_of a b = cond (a == 0 || b == 0) (Some NoSide) (cond (nat_lt longest a || nat_lt longest b) (Some TooLong) None)
+fault_of a b = if a == 0 || b == 0 then Some NoSide else (if nat_lt longest a || nat_lt longest b then Some TooLong else None)

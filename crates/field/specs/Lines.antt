@@ -1,9 +1,10 @@
 -- How a line is read, byte by byte.
-use Rattle.std.specs.Prelude.{ℕ, ◌+◌, ◌-◌, ◌*◌, min, cond, List, Some, None, fold, Option}
+use Rattle.std.specs.Char.{is_ascii_digit}
+use Rattle.std.specs.Prelude.{ℕ, ◌+◌, ◌-◌, ◌*◌, min, if◌then◌else◌, List, Some, None, fold, Option}
 use Rattle.field.specs.declared.line.Reading.{Reading}
 use Rattle.field.specs.declared.line.Reading.TheVariants.{Before, First, Between, Second, After, Broken}
 use Rattle.field.specs.Field.{longest}
-use Rattle.field.specs.Pair.{blank, digit}
+use Rattle.field.specs.Pair.{is_blank}
 
 -- a number past the longest side counts as one above it
 abbrev pub capped : ℕ → ℕ
@@ -30,7 +31,7 @@ after_digit (After a b) d = Broken
 after_digit Broken d = Broken
 
 abbrev pub after_byte : Reading → ℕ → Reading
-after_byte r c = cond (blank c) (after_blank r) (cond (digit c) (after_digit r (c - 48)) Broken)
+after_byte r c = if is_blank c then after_blank r else (if is_ascii_digit c then after_digit r (c - 48) else Broken)
 
 -- the two numbers that a reading ends with
 abbrev pub pair_of : Reading → Option (ℕ × ℕ)

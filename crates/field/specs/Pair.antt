@@ -1,24 +1,21 @@
 -- What a line of bytes writes: two whole numbers with blanks between them. More blanks may stand before and after them.
-use Rattle.std.specs.Prelude.{◌≡◌, ℕ, ◌-◌, ◌<◌, Bool, ◌&&◌, ◌||◌, T, List, ◌++◌, map, length, Some, ◌==◌, nat_le}
+use Rattle.std.specs.Prelude.{◌≡◌, ℕ, ◌-◌, ◌<◌, Bool, ◌||◌, List, ◌++◌, map, length, Some, ◌==◌}
 use Rattle.std.specs.Int.Digits.{number_from_digits}
-use Rattle.std.specs.List.{AllByRecursion}
+use Rattle.std.specs.List.{AllPass}
+use Rattle.std.specs.Char.{is_ascii_digit}
 use Rattle.field.specs.declared.refusal.Refusal.{Refusal}
 use Rattle.field.specs.declared.refusal.Refusal.TheVariants.{NotPair, NoSide, TooLong}
 use Rattle.field.specs.Field.{fault_of}
 
 -- a space, a tab or a carriage return
-abbrev pub blank : ℕ → Bool
-blank c = c == 32 || c == 9 || c == 13
-
--- from '0', which is 48, to '9'
-abbrev pub digit : ℕ → Bool
-digit c = nat_le 48 c && nat_le c 57
+abbrev pub is_blank : ℕ → Bool
+is_blank c = c == 32 || c == 9 || c == 13
 
 abbrev pub Blanks : List ℕ → Type 0
-Blanks cs = AllByRecursion (λ c. T (blank c)) cs
+Blanks cs = AllPass is_blank cs
 
 abbrev pub Digits : List ℕ → Type 0
-Digits cs = AllByRecursion (λ c. T (digit c)) cs
+Digits cs = AllPass is_ascii_digit cs
 
 -- the number that digits write, in base ten
 abbrev pub value_of : List ℕ → ℕ

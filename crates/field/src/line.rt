@@ -1,5 +1,5 @@
 // A line of input: two whole numbers with blanks between them.
-ghost use Rattle.std.specs.Prelude.{◌≡◌, ℕ, ◌+◌, ◌*◌, ◌<◌, ◌≤◌, min, fold, MatchResult};
+ghost use Rattle.std.specs.Prelude.{◌≡◌, ℕ, ◌+◌, ◌<◌, ◌≤◌, fold, MatchResult};
 ghost use Rattle.field.specs.Field.{longest};
 ghost use Rattle.field.specs.Pair.{Writes, Refused};
 
@@ -22,6 +22,8 @@ impl Model for Capped {
 }
 
 impl Capped {
+    ghost use Rattle.field.specs.Lines.{longer};
+
     fn from_digit(digit: u8) -> Self
         requires { digit < 10 }
         ensures { result ≡ digit }
@@ -31,7 +33,7 @@ impl Capped {
 
     fn push_digit(self, digit: u8) -> Self
         requires { digit < 10 }
-        ensures { result ≡ min (self * 10 + digit) (longest + 1) }
+        ensures { result ≡ longer self digit }
     {
         Capped((self.0 * 10 + u64::from(digit)).min(Sides::LONGEST + 1))
     }
