@@ -3,7 +3,7 @@ use crate::sides::Sides;
 use std::error::Error;
 use std::fmt;
 
-#[derive(Clone, Copy, Debug, PartialEq, Eq, Hash)]
+#[derive(Clone, Copy, Debug, PartialEq, Eq)]
 pub enum Refusal {
     /// The line is not two whole numbers with blanks between them.
     NotPair,
