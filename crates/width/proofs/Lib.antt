@@ -1,3 +1,4 @@
 pub mod Shifts
 pub mod Patterns
 pub mod Products
+pub mod Zeros

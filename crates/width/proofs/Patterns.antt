@@ -2,7 +2,7 @@
 use Rattle.std.proofs.Common.{◌≡◌, ◌*◌, ◌^◌, ◌<◌, Bool, true, false, T, refl}
 use lib.Ieee.{Float, Format, binary32, binary64, nan, inf, fin, is_nan, fits, to_bits, top}
 use lib.Ieee.Bits.{of_bits-to_bits, to_bits-lt}
-use Rattle.width.specs.Shape.{shape_of, width}
+use Rattle.width.specs.Shape.{shape_of, width, quiet}
 use Rattle.width.specs.Pattern.{PatternOf}
 
 pub only_nan : (x : Float) → is_nan x ≡ true → x ≡ nan
@@ -17,3 +17,9 @@ pattern_of f x k n = record { number = n; pattern = refl; value = of_bits-to_bit
     small : (f : Format) → to_bits f x < 2 * top f → to_bits f x < 2 ^ width (shape_of f)
     small binary32 h = h
     small binary64 h = h
+
+-- the pattern that is written for NaN is the quiet one
+pub quiet_nan : (f : Format) → quiet (shape_of f) ≡ to_bits f nan
+unfolding to_bits
+quiet_nan binary32 = refl
+quiet_nan binary64 = refl

@@ -1,27 +1,13 @@
 // The source's `Float` as two interfaces: what a pattern's fields are, and arithmetic.
-ghost use Rattle.std.specs.Prelude.{◌≡◌, ℕ, suc, ◌+◌, ◌-◌, ◌*◌, ◌/◌, ◌%◌, ◌^◌, ◌<◌, MatchOption, Float};
+ghost use Rattle.std.specs.Prelude.{◌≡◌, ℕ, suc, ◌+◌, ◌-◌, ◌*◌, ◌/◌, ◌%◌, ◌^◌, ◌<◌, MatchOption, Float, ◌==◌, nat_lt, to_bits};
 ghost use Rattle.std.specs.Float.Ieee as Ieee;
 ghost use Rattle.std.specs.Float.{Format};
-ghost use Rattle.std.specs.Float as Floats;
+ghost use Rattle.std.specs.Ordering.{float_partial_cmp};
 ghost use Rattle.width.specs.Pattern.{PatternOf};
-ghost use Rattle.width.specs.Shape.{Shape, Sound, shape_of, width as width_of, bias, sign, infinity, quiet};
+ghost use Rattle.width.specs.Shape.{Shape, Sound, Fields, shape_of, width as width_of, sign, infinity};
 
 use crate::int_traits::{HInt, Int};
 use std::ops::{Add, Div, Mul, Neg, Sub};
-
-/// The sizes of a pattern's fields, and the masks that follow from them.
-#[derive(Clone, Copy)]
-pub struct Fields<I> {
-    pub bits: u32,
-    pub sig_bits: u32,
-    pub exp_bits: u32,
-    pub exp_bias: u32,
-    pub sign_mask: I,
-    pub sig_mask: I,
-    pub exp_mask: I,
-    pub implicit_bit: I,
-    pub quiet_nan: I,
-}
 
 /// How a number is laid out in its pattern. It has no arithmetic, so that patterns for which there
 /// is none can have a layout too.
@@ -46,28 +32,61 @@ pub trait Layout {
 
     const QUIET_NAN: Self::Int;
 
+    ghost BITS: { ℕ };
+
+    ghost SIG_BITS: { ℕ };
+
+    ghost EXP_BITS: { ℕ };
+
+    ghost EXP_BIAS: { ℕ };
+
+    ghost SIGN_MASK: { Self.Int };
+
+    ghost SIG_MASK: { Self.Int };
+
+    ghost EXP_MASK: { Self.Int };
+
+    ghost IMPLICIT_BIT: { Self.Int };
+
+    ghost QUIET_NAN: { Self.Int };
+
     ghost shape: { Shape };
 
-    /// The constants above, for code that is generic in the layout.
-    fn fields() -> Fields<Self::Int>
-        ensures bits { result.bits ≡ width_of shape }
-        ensures sig_bits { result.sig_bits ≡ shape.sig }
-        ensures exp_bits { result.exp_bits ≡ suc shape.half }
-        ensures exp_bias { result.exp_bias ≡ bias shape }
-        ensures sign_mask { Self.Int.Int.nat result.sign_mask ≡ sign shape }
-        ensures sig_mask { Self.Int.Int.nat result.sig_mask ≡ 2 ^ shape.sig - 1 }
-        ensures exp_mask { Self.Int.Int.nat result.exp_mask ≡ infinity shape }
-        ensures implicit_bit { Self.Int.Int.nat result.implicit_bit ≡ 2 ^ shape.sig }
-        ensures quiet_nan { Self.Int.Int.nat result.quiet_nan ≡ quiet shape };
+    /// Whether a pattern is that of +0 or -0.
+    #[tactic(auto, using(crate::proofs::Zeros::zero_test))]
+    final fn is_zero(ix: Self::Int) -> bool
+        ensures { result ≡ (Self.Int.Int.nat ix % sign shape == 0) }
+    {
+        ix.shl(1) == Self::Int::from_u32(0)
+    }
+
+    /// Whether a pattern is that of positive infinity.
+    final fn is_infinity(ix: Self::Int) -> bool
+        ensures { result ≡ (Self.Int.Int.nat ix == infinity shape) }
+    {
+        ix == Self::EXP_MASK
+    }
+
+    /// Whether a pattern lies past positive infinity's: a NaN's, or one with the sign bit set.
+    final fn is_past_infinity(ix: Self::Int) -> bool
+        ensures { result ≡ nat_lt (infinity shape) (Self.Int.Int.nat ix) }
+    {
+        Self::EXP_MASK < ix
+    }
+
+    ghost fields: { Fields shape BITS SIG_BITS EXP_BITS EXP_BIAS (Self.Int.Int.nat SIGN_MASK)
+        (Self.Int.Int.nat SIG_MASK) (Self.Int.Int.nat EXP_MASK) (Self.Int.Int.nat IMPLICIT_BIT)
+        (Self.Int.Int.nat QUIET_NAN) };
+
+    ghost whole: { Self.Int.Int.BITS ≡ width_of shape };
 
     ghost sound: { Sound shape };
-
-    ghost whole: { Self.Int.Int.bits ≡ width_of shape };
 }
 
 /// A float: a layout with arithmetic, each operation rounded once to nearest, ties to even.
 pub trait Width: Layout
     + Copy
+    + PartialOrd
     + Add<Self, Output = Self>
     + Sub<Self, Output = Self>
     + Mul<Self, Output = Self>
@@ -76,14 +95,6 @@ pub trait Width: Layout
     ghost fmt: { Format };
 
     ghost val: { Self → Float };
-
-    /// Whether it lies below the other; false where one is NaN.
-    fn less_than(self, other: Self) -> bool
-        ensures { result ≡ Ieee.lt (val self) (val other) };
-
-    /// Whether the two are the same number, -0 and +0 among them; false where one is NaN.
-    fn equals(self, other: Self) -> bool
-        ensures { result ≡ Ieee.eq (val self) (val other) };
 
     fn is_nan(self) -> bool
         ensures { result ≡ Ieee.is_nan (val self) };
@@ -95,6 +106,35 @@ pub trait Width: Layout
     /// The number of a pattern; each NaN's pattern gives NaN.
     fn from_pattern(bits: Self::Int) -> Self
         ensures { val result ≡ Ieee.of_bits fmt (Self.Int.Int.nat bits) };
+
+    /// Whether it lies below the other; false where one is NaN.
+    final fn less_than(self, other: Self) -> bool
+        ensures { result ≡ Ieee.lt (val self) (val other) }
+    {
+        self < other
+    }
+
+    /// Whether the two are the same number, -0 and +0 among them; false where one is NaN.
+    final fn equals(self, other: Self) -> bool
+        ensures { result ≡ Ieee.eq (val self) (val other) }
+    {
+        self == other
+    }
+
+    /// The pattern, and for NaN the quiet one with a clear sign.
+    #[tactic(auto, using(crate::proofs::Patterns::quiet_nan))]
+    final fn to_pattern(self) -> Self::Int
+        ensures { Self.Int.Int.nat result ≡ to_bits fmt (val self) }
+    {
+        match self.pattern() {
+            Some(bits) => bits,
+            None => Self::QUIET_NAN,
+        }
+    }
+
+    ghost eqs: { (x y : Self) → Self.PartialEq.eq x y ≡ Ieee.eq (val x) (val y) };
+
+    ghost cmps: { (x y : Self) → Self.PartialOrd.partial_cmp x y ≡ float_partial_cmp (val x) (val y) };
 
     ghost shaped: { Self.Layout.shape ≡ shape_of fmt };
 

@@ -6,5 +6,5 @@ pub mod int_traits;
 pub mod narrow;
 pub mod wide;
 
-pub use float_traits::{Fields, Layout, Width};
+pub use float_traits::{Layout, Width};
 pub use int_traits::{HInt, Int};

@@ -3,23 +3,25 @@ ghost use Rattle.std.specs.Prelude.{◌≡◌, ℕ, ◌^◌, MatchOption};
 ghost use Rattle.std.specs.Float.{binary32, nan};
 ghost use Rattle.width.specs.Pattern.{PatternOf};
 ghost use Rattle.width.specs.Product.{exact};
-ghost use Rattle.width.specs.Shape.{shape_of};
+ghost use Rattle.width.specs.Shape.{shape_of, format_sound};
 ghost use Rattle.std.proofs.Common.{rules};
 
-use crate::float_traits::{Fields, Layout, Width};
+use crate::float_traits::{Layout, Width};
 use crate::int_traits::{HInt, Int};
 use std::num::f32_from_bits_with_nan;
 
 impl Int for u32 {
-    ghost nat = { λ x. x };
+    const BITS: u32 = u32::BITS;
 
-    ghost bits = { 32 };
+    ghost BITS = { 32 };
+
+    ghost nat = { λ x. x };
 
     ghost wide = { Prim.search rules };
 
-    fn size() -> u32 {
-        u32::BITS
-    }
+    ghost eqs = { Prim.search rules };
+
+    ghost cmps = { Prim.search rules };
 
     fn from_u32(x: u32) -> u32 {
         x
@@ -64,14 +66,6 @@ impl Int for u32 {
     fn leading_zeros(self) -> u32 {
         self.leading_zeros()
     }
-
-    fn lt(self, other: u32) -> bool {
-        self < other
-    }
-
-    fn eq(self, other: u32) -> bool {
-        self == other
-    }
 }
 
 impl HInt for u32 {
@@ -103,32 +97,31 @@ impl Layout for f32 {
 
     const QUIET_NAN: u32 = 0x7fc0_0000;
 
+    ghost BITS = { 32 };
+
+    ghost SIG_BITS = { 23 };
+
+    ghost EXP_BITS = { 8 };
+
+    ghost EXP_BIAS = { 127 };
+
+    ghost SIGN_MASK = { 0x8000_0000 };
+
+    ghost SIG_MASK = { 0x007f_ffff };
+
+    ghost EXP_MASK = { 0x7f80_0000 };
+
+    ghost IMPLICIT_BIT = { 0x0080_0000 };
+
+    ghost QUIET_NAN = { 0x7fc0_0000 };
+
     ghost shape = { shape_of binary32 };
 
-    ghost sound = { Prim.search rules };
+    ghost fields = { Prim.search rules };
 
     ghost whole = { Prim.search rules };
 
-    fn fields() -> Fields<u32> {
-        Fields {
-            bits: Self::BITS,
-            sig_bits: Self::SIG_BITS,
-            exp_bits: Self::EXP_BITS,
-            exp_bias: Self::EXP_BIAS,
-            sign_mask: Self::SIGN_MASK,
-            sig_mask: Self::SIG_MASK,
-            exp_mask: Self::EXP_MASK,
-            implicit_bit: Self::IMPLICIT_BIT,
-            quiet_nan: Self::QUIET_NAN,
-        }
-    }
-}
-
-// `to_bits` is not defined at NaN, so that is told first.
-fn bits_of(x: f32) -> Option<u32>
-    ensures { MatchOption result (x ≡ nan) (λ n. PatternOf binary32 x n) }
-{
-    if x.is_nan() { None } else { Some(x.to_bits()) }
+    ghost sound = { format_sound binary32 };
 }
 
 impl Width for f32 {
@@ -137,6 +130,10 @@ impl Width for f32 {
     ghost val = { λ x. x };
 
     ghost shaped = { Prim.search rules };
+
+    ghost eqs = { Prim.search rules };
+
+    ghost cmps = { Prim.search rules };
 
     ghost can_add = { Prim.search rules };
 
@@ -158,20 +155,18 @@ impl Width for f32 {
 
     ghost negs = { Prim.search rules };
 
-    fn less_than(self, other: f32) -> bool {
-        self < other
-    }
-
-    fn equals(self, other: f32) -> bool {
-        self == other
-    }
-
     fn is_nan(self) -> bool {
         f32::is_nan(self)
     }
 
+    #[tactic(auto, using(crate::proofs::Patterns::only_nan, crate::proofs::Patterns::pattern_of))]
     fn pattern(self) -> Option<u32> {
-        bits_of(self)
+        // `to_bits` is not defined at NaN, so that is told first.
+        if self.is_nan() {
+            None
+        } else {
+            Some(self.to_bits())
+        }
     }
 
     fn from_pattern(bits: u32) -> f32 {

@@ -3,23 +3,25 @@ ghost use Rattle.std.specs.Prelude.{◌≡◌, ℕ, ◌^◌, MatchOption};
 ghost use Rattle.std.specs.Float.{binary64, nan};
 ghost use Rattle.width.specs.Pattern.{PatternOf};
 ghost use Rattle.width.specs.Product.{halves};
-ghost use Rattle.width.specs.Shape.{shape_of};
+ghost use Rattle.width.specs.Shape.{shape_of, format_sound};
 ghost use Rattle.std.proofs.Common.{rules};
 
-use crate::float_traits::{Fields, Layout, Width};
+use crate::float_traits::{Layout, Width};
 use crate::int_traits::{HInt, Int};
 use std::num::f64_from_bits_with_nan;
 
 impl Int for u64 {
-    ghost nat = { λ x. x };
+    const BITS: u32 = u64::BITS;
 
-    ghost bits = { 64 };
+    ghost BITS = { 64 };
+
+    ghost nat = { λ x. x };
 
     ghost wide = { Prim.search rules };
 
-    fn size() -> u32 {
-        u64::BITS
-    }
+    ghost eqs = { Prim.search rules };
+
+    ghost cmps = { Prim.search rules };
 
     fn from_u32(x: u32) -> u64 {
         x as u64
@@ -64,19 +66,12 @@ impl Int for u64 {
     fn leading_zeros(self) -> u32 {
         self.leading_zeros()
     }
-
-    fn lt(self, other: u64) -> bool {
-        self < other
-    }
-
-    fn eq(self, other: u64) -> bool {
-        self == other
-    }
 }
 
 impl HInt for u64 {
     ghost mulh = { halves (2 ^ 32) };
 
+    #[tactic(auto, using(crate::proofs::Products::halves_fit))]
     fn wmulh(self, other: u64) -> u64 {
         let (ah, al) = (self >> 32, self % 0x1_0000_0000);
         let (bh, bl) = (other >> 32, other % 0x1_0000_0000);
@@ -105,32 +100,31 @@ impl Layout for f64 {
 
     const QUIET_NAN: u64 = 0x7ff8_0000_0000_0000;
 
+    ghost BITS = { 64 };
+
+    ghost SIG_BITS = { 52 };
+
+    ghost EXP_BITS = { 11 };
+
+    ghost EXP_BIAS = { 1023 };
+
+    ghost SIGN_MASK = { 0x8000_0000_0000_0000 };
+
+    ghost SIG_MASK = { 0x000f_ffff_ffff_ffff };
+
+    ghost EXP_MASK = { 0x7ff0_0000_0000_0000 };
+
+    ghost IMPLICIT_BIT = { 0x0010_0000_0000_0000 };
+
+    ghost QUIET_NAN = { 0x7ff8_0000_0000_0000 };
+
     ghost shape = { shape_of binary64 };
 
-    ghost sound = { Prim.search rules };
+    ghost fields = { Prim.search rules };
 
     ghost whole = { Prim.search rules };
 
-    fn fields() -> Fields<u64> {
-        Fields {
-            bits: Self::BITS,
-            sig_bits: Self::SIG_BITS,
-            exp_bits: Self::EXP_BITS,
-            exp_bias: Self::EXP_BIAS,
-            sign_mask: Self::SIGN_MASK,
-            sig_mask: Self::SIG_MASK,
-            exp_mask: Self::EXP_MASK,
-            implicit_bit: Self::IMPLICIT_BIT,
-            quiet_nan: Self::QUIET_NAN,
-        }
-    }
-}
-
-// `to_bits` is not defined at NaN, so that is told first.
-fn bits_of(x: f64) -> Option<u64>
-    ensures { MatchOption result (x ≡ nan) (λ n. PatternOf binary64 x n) }
-{
-    if x.is_nan() { None } else { Some(x.to_bits()) }
+    ghost sound = { format_sound binary64 };
 }
 
 impl Width for f64 {
@@ -139,6 +133,10 @@ impl Width for f64 {
     ghost val = { λ x. x };
 
     ghost shaped = { Prim.search rules };
+
+    ghost eqs = { Prim.search rules };
+
+    ghost cmps = { Prim.search rules };
 
     ghost can_add = { Prim.search rules };
 
@@ -160,20 +158,18 @@ impl Width for f64 {
 
     ghost negs = { Prim.search rules };
 
-    fn less_than(self, other: f64) -> bool {
-        self < other
-    }
-
-    fn equals(self, other: f64) -> bool {
-        self == other
-    }
-
     fn is_nan(self) -> bool {
         f64::is_nan(self)
     }
 
+    #[tactic(auto, using(crate::proofs::Patterns::only_nan, crate::proofs::Patterns::pattern_of))]
     fn pattern(self) -> Option<u64> {
-        bits_of(self)
+        // `to_bits` is not defined at NaN, so that is told first.
+        if self.is_nan() {
+            None
+        } else {
+            Some(self.to_bits())
+        }
     }
 
     fn from_pattern(bits: u64) -> f64 {
