@@ -29,7 +29,7 @@ impl Words {
 fn low_word<W: Width>(bits: W::Int) -> u32
     ensures { (v : Float) → PatternOf W.Width.fmt v (W.Int.Int.nat bits) → result ≡ low_word W.Width.fmt v }
 {
-    if W::fields().bits > 32 {
+    if W::BITS > 32 {
         bits.low_u32()
     } else {
         0
@@ -40,7 +40,7 @@ fn low_word<W: Width>(bits: W::Int) -> u32
 fn words_of<W: Width>(bits: W::Int) -> Words
     ensures { (v : Float) → PatternOf W.Width.fmt v (W.Int.Int.nat bits) → WordsOf W.Width.fmt v result }
 {
-    let below = W::fields().bits.saturating_sub(32);
+    let below = W::BITS.saturating_sub(32);
     let hx = bits.shr(below).low_u32();
     Words {
         negative: hx >> 31 != 0,

@@ -33,19 +33,7 @@ infinity_clear S =
     below : (Q E s : ℕ) → 0 < Q → 0 < E → s ≡ Q * (2 * E) → (2 * (E - 1) + 1) * Q < s
     below Q E s q p e = let m = minus Q E p in omega arith
 
--- doubling loses the sign and nothing else
-doubled : (S : Shape) (b bits : ℕ) → bits ≡ width S → b * 2 % 2 ^ bits ≡ 2 * (b % sign S)
-doubled S b bits bi =
-    let c = sign S in
-    let l = mod-lt b (pow_pos (S.sig + S.half + 1)) in
-    let e = div-add-mod b c in
-    let i : b * 2 ≡ 2 * c * (b / c) + 2 * (b % c) = twice c (b / c) (b % c) e in
-    ap₂ (λ x y. x % y) i (ap (λ x. 2 ^ x) bi ∙ sign_range S) ∙ mul-add-mod_self_left (2 * c) (b / c) (2 * (b % c)) ∙ mod-eq_of_lt {n = 2 * (b % c)} {m = 2 * c} (omega arith)
-  where
-    twice : (c q r : ℕ) → c * q + r ≡ b → b * 2 ≡ 2 * c * q + 2 * r
-    twice c q r e = omega arith
-
-module _ (S : Shape) (b bits : ℕ) (bi : bits ≡ width S) where
+module _ (S : Shape) (b : ℕ) where
   -- the status of each class
   pub status_ok : b ≤ infinity S → status_of S b ≡ Ok
   status_ok h = rw (le-ltb (infinity S) b h) (no_and (ltb 0 (b % sign S)))
@@ -54,35 +42,33 @@ module _ (S : Shape) (b bits : ℕ) (bi : bits ≡ width S) where
       no_and true = refl
       no_and false = refl
 
-  pub status_zero : b * 2 % 2 ^ bits ≡ 0 → status_of S b ≡ Ok
-  status_zero h = let z : b % sign S ≡ 0 = let d = doubled S b bits bi in omega arith in rw z
+  pub status_zero : b % sign S ≡ 0 → status_of S b ≡ Ok
+  status_zero z = rw z
 
-  pub status_invalid : (b * 2 % 2 ^ bits ≡ 0 → ⊥) → infinity S < b → status_of S b ≡ Invalid
+  pub status_invalid : (b % sign S ≡ 0 → ⊥) → infinity S < b → status_of S b ≡ Invalid
   status_invalid n g = rw (lt-ltb 0 (b % sign S) (some (b % sign S) refl), lt-ltb (infinity S) b g)
     where
       some : (k : ℕ) → k ≡ b % sign S → 0 < k
-      some zero e = absurd (n (doubled S b bits bi ∙ ap (λ y. 2 * y) (sym e)))
+      some zero e = absurd (n (sym e))
       some (suc k) e = omega arith
 
   clear : b < infinity S → b % sign S ≡ b
   clear h = let i = infinity_clear S in mod-eq_of_lt {n = b} {m = sign S} (omega arith)
 
-  pub zero_root : b * 2 % 2 ^ bits ≡ 0 → RootBits S b b
-  zero_root h =
-      let z : b % sign S ≡ 0 = let d = doubled S b bits bi in omega arith in
-      record {
-        of_zero = λ _. refl;
-        of_infinity = λ _. refl;
-        of_none = λ p _. absurd (no p z);
-        finite = λ p l. absurd (none p l z);
-        between = λ p l. absurd (none p l z);
-      }
+  pub zero_root : b % sign S ≡ 0 → RootBits S b b
+  zero_root z = record {
+    of_zero = λ _. refl;
+    of_infinity = λ _. refl;
+    of_none = λ p _. absurd (no p);
+    finite = λ p l. absurd (none p l);
+    between = λ p l. absurd (none p l);
+  }
     where
-      no : 0 < b % sign S → b % sign S ≡ 0 → ⊥
-      no p z = omega arith
+      no : 0 < b % sign S → ⊥
+      no p = omega arith
 
-      none : 0 < b → b < infinity S → b % sign S ≡ 0 → ⊥
-      none p l z = let c = clear l in omega arith
+      none : 0 < b → b < infinity S → ⊥
+      none p l = let c = clear l in omega arith
 
   pub infinity_root : b ≡ infinity S → RootBits S b b
   infinity_root e = record {
@@ -99,9 +85,9 @@ module _ (S : Shape) (b bits : ℕ) (bi : bits ≡ width S) where
       under : b < infinity S → ⊥
       under l = omega arith
 
-  pub none_root : (b * 2 % 2 ^ bits ≡ 0 → ⊥) → infinity S < b → (r : ℕ) → r ≡ quiet S → RootBits S b r
+  pub none_root : (b % sign S ≡ 0 → ⊥) → infinity S < b → (r : ℕ) → r ≡ quiet S → RootBits S b r
   none_root n g r q = record {
-    of_zero = λ z. absurd (n (doubled S b bits bi ∙ ap (λ y. 2 * y) z));
+    of_zero = λ z. absurd (n z);
     of_infinity = λ e. absurd (no e);
     of_none = λ _ _. q;
     finite = λ _ l. absurd (under l);
@@ -114,11 +100,11 @@ module _ (S : Shape) (b bits : ℕ) (bi : bits ≡ width S) where
       under : b < infinity S → ⊥
       under l = omega arith
 
-  pub some_bit : (b * 2 % 2 ^ bits ≡ 0 → ⊥) → 0 < b
+  pub some_bit : (b % sign S ≡ 0 → ⊥) → 0 < b
   some_bit n = go b refl
     where
       go : (k : ℕ) → k ≡ b → 0 < k
-      go zero e = absurd (n (ap (λ y. y * 2 % 2 ^ bits) (sym e) ∙ zero-mod (2 ^ bits)))
+      go zero e = absurd (n (ap (λ y. y % sign S) (sym e) ∙ zero-mod (sign S)))
       go (suc k) e = omega arith
 
   pub number_root : 0 < b → b < infinity S → (r : ℕ) → suc r < infinity S → Between (2 ^ S.sig) (target S b) r → RootBits S b r
@@ -171,4 +157,4 @@ module _ (S : Shape) (ok : Sound S) (ix : ℕ) (z : 0 < ix) (l : ix < infinity S
   pub word_root : (r : ℕ) → r ≡ joined S (exp_of S ix / 2) m → RootBits S ix r
   word_root r e =
       subst (λ y. RootBits S ix y) (sym e)
-      (number_root S ix bits bi z l (joined S (exp_of S ix / 2) m) (root_finite S ok ix m z near l) (root_between S ok ix m z near))
+      (number_root S ix z l (joined S (exp_of S ix / 2) m) (root_finite S ok ix m z near l) (root_between S ok ix m z near))

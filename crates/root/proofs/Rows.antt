@@ -4,7 +4,7 @@ use lib.Count.{count_trailing_zeros}
 use lib.Ieee.{Float, of_bits, of_fields, to_bits, odd, size, span, climb}
 use lib.Ieee.Fits.{and_l, and_r}
 use Rattle.std.specs.List.{AllByRecursion}
-use Rattle.width.specs.Shape.{Shape, shape_of, width, infinity, quiet, reading}
+use Rattle.width.specs.Shape.{Shape, shape_of, width, sign, infinity, quiet, reading}
 use Rattle.rootlaws.specs.Roots.{RootBits, target, NearestRoot}
 use Rattle.rootlaws.proofs.Floats.{bits_root, one_root}
 use Rattle.root.specs.Known.{Row, rows, Known}
@@ -22,7 +22,7 @@ abbrev number_passes : Shape → ℕ → ℕ → Bool
 number_passes S b r = ltb 0 b && ltb b (infinity S) && ltb (suc r) (infinity S) && ltb (below (2 ^ S.sig) r) (4 * target S b) && ltb (4 * target S b) (above (2 ^ S.sig) r)
 
 abbrev none_passes : Shape → ℕ → ℕ → Bool
-none_passes S b r = ltb 0 (b * 2 % 2 ^ width S) && ltb (infinity S) b && eqb r (quiet S)
+none_passes S b r = ltb 0 (b % sign S) && ltb (infinity S) b && eqb r (quiet S)
 
 abbrev pattern_passes : Shape → ℕ → ℕ → Bool
 pattern_passes S b r = cond (ltb b (infinity S)) (number_passes S b r) (none_passes S b r)
@@ -32,7 +32,7 @@ number_ok S b r t =
     let t3 = and_l _ _ t in
     let t2 = and_l _ _ t3 in
     let t1 = and_l _ _ t2 in
-    number_root S b (width S) refl (ltb→lt 0 b (and_l _ _ t1)) (ltb→lt b (infinity S) (and_r (ltb 0 b) _ t1)) r (ltb→lt (suc r) (infinity S) (and_r (ltb 0 b && ltb b (infinity S)) _ t2))
+    number_root S b (ltb→lt 0 b (and_l _ _ t1)) (ltb→lt b (infinity S) (and_r (ltb 0 b) _ t1)) r (ltb→lt (suc r) (infinity S) (and_r (ltb 0 b && ltb b (infinity S)) _ t2))
     (record {
       below = ltb→lt (below (2 ^ S.sig) r) (4 * target S b) (and_r (ltb 0 b && ltb b (infinity S) && ltb (suc r) (infinity S)) _ t3);
       above = ltb→lt (4 * target S b) (above (2 ^ S.sig) r) (and_r (ltb 0 b && ltb b (infinity S) && ltb (suc r) (infinity S) && ltb (below (2 ^ S.sig) r) (4 * target S b)) _ t);
@@ -41,7 +41,7 @@ number_ok S b r t =
 none_ok : (S : Shape) (b r : ℕ) → T (none_passes S b r) → RootBits S b r
 none_ok S b r t =
     let t1 = and_l _ _ t in
-    none_root S b (width S) refl (some (b * 2 % 2 ^ width S) (ltb→lt 0 _ (and_l _ _ t1))) (ltb→lt (infinity S) b (and_r (ltb 0 (b * 2 % 2 ^ width S)) _ t1)) r (eqb→eq r (quiet S) (and_r (ltb 0 (b * 2 % 2 ^ width S) && ltb (infinity S) b) _ t))
+    none_root S b (some (b % sign S) (ltb→lt 0 _ (and_l _ _ t1))) (ltb→lt (infinity S) b (and_r (ltb 0 (b % sign S)) _ t1)) r (eqb→eq r (quiet S) (and_r (ltb 0 (b % sign S) && ltb (infinity S) b) _ t))
   where
     some : (x : ℕ) → 0 < x → x ≡ 0 → ⊥
     some x p e = omega arith

@@ -3,8 +3,7 @@ ghost use Rattle.std.specs.Prelude.{◌≡◌, true, length};
 ghost use Rattle.root.specs.Count.{raised, raised_by};
 ghost use Rattle.root.specs.Runs.{OneRun};
 
-use crate::unit::RootUnit;
-use std::num::{f32_to_bits_with_nan, f64_to_bits_with_nan};
+use crate::unit::{RootUnit, Rooted};
 
 /// A reading of either width, of which a root is asked.
 #[derive(Clone, Copy)]
@@ -14,22 +13,22 @@ pub enum Reading {
 }
 
 // Asks both units for one root, and says whether the answers have the same bits.
-fn same_root<P: RootUnit, Q: RootUnit>(first: &mut P, second: &mut Q, reading: Reading) -> bool
+fn same_root<W: Rooted, P: RootUnit, Q: RootUnit>(first: &mut P, second: &mut Q, v: W) -> bool
+    ensures same { result ≡ true }
+    ensures first { P.RootUnit.count first.new ≡ raised (P.RootUnit.count first.old) }
+    ensures second { Q.RootUnit.count second.new ≡ raised (Q.RootUnit.count second.old) }
+{
+    W::root_from(first, v).to_pattern() == W::root_from(second, v).to_pattern()
+}
+
+fn same_answer<P: RootUnit, Q: RootUnit>(first: &mut P, second: &mut Q, reading: Reading) -> bool
     ensures same { result ≡ true }
     ensures first { P.RootUnit.count first.new ≡ raised (P.RootUnit.count first.old) }
     ensures second { Q.RootUnit.count second.new ≡ raised (Q.RootUnit.count second.old) }
 {
     match reading {
-        Reading::Wide(v) => {
-            let root = first.wide_root(v);
-            let other = second.wide_root(v);
-            f64_to_bits_with_nan(root) == f64_to_bits_with_nan(other)
-        }
-        Reading::Narrow(v) => {
-            let root = first.narrow_root(v);
-            let other = second.narrow_root(v);
-            f32_to_bits_with_nan(root) == f32_to_bits_with_nan(other)
-        }
+        Reading::Wide(v) => same_root(first, second, v),
+        Reading::Narrow(v) => same_root(first, second, v),
     }
 }
 
@@ -44,7 +43,7 @@ pub fn agree<P: RootUnit, Q: RootUnit>(first: &mut P, second: &mut Q, readings: 
     ensures counts { P.RootUnit.count first.old ≡ Q.RootUnit.count second.old → P.RootUnit.count first.new ≡ Q.RootUnit.count second.new }
 {
     for reading in readings {
-        if !same_root(first, second, *reading) {
+        if !same_answer(first, second, *reading) {
             return false;
         }
     }

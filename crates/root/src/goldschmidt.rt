@@ -7,7 +7,7 @@ use width::HInt;
 // The root doubled, in each turn but the first of a set and the last of the final set.
 fn doubled<I: HInt>(s_u2: I, i: u32, count: u32, final_set: bool) -> I
     requires { i < count }
-    ensures { I.Int.nat result ≡ (if doubles count final_set i then I.Int.nat s_u2 * 2 % 2 ^ I.Int.bits else I.Int.nat s_u2) }
+    ensures { I.Int.nat result ≡ (if doubles count final_set i then I.Int.nat s_u2 * 2 % 2 ^ I.Int.BITS else I.Int.nat s_u2) }
 {
     if i > 0 && (!final_set || i + 1 < count) {
         s_u2.shl(1)
@@ -20,10 +20,10 @@ fn doubled<I: HInt>(s_u2: I, i: u32, count: u32, final_set: bool) -> I
 /// both. The root has one bit less after the final set. There what is handed back as the
 /// reciprocal is not one.
 pub fn goldschmidt<I: HInt>(mut r_u0: I, mut s_u2: I, count: u32, final_set: bool) -> (I, I)
-    ensures rec { I.Int.nat result.0 ≡ (gold (2 ^ (I.Int.bits - 2)) I.HInt.mulh count final_set (I.Int.nat r_u0) (I.Int.nat s_u2)).rec }
-    ensures root { I.Int.nat result.1 ≡ (gold (2 ^ (I.Int.bits - 2)) I.HInt.mulh count final_set (I.Int.nat r_u0) (I.Int.nat s_u2)).root }
+    ensures rec { I.Int.nat result.0 ≡ (gold (2 ^ (I.Int.BITS - 2)) I.HInt.mulh count final_set (I.Int.nat r_u0) (I.Int.nat s_u2)).rec }
+    ensures root { I.Int.nat result.1 ≡ (gold (2 ^ (I.Int.BITS - 2)) I.HInt.mulh count final_set (I.Int.nat r_u0) (I.Int.nat s_u2)).root }
 {
-    let three_u2 = I::from_u32(0b11).shl(I::size() - 2);
+    let three_u2 = I::from_u32(0b11).shl(I::BITS - 2);
     let mut u_u0 = r_u0;
     for i in 0..count {
         // First turn: s = m * r, since u = r. Later ones: s = s * u / 2.

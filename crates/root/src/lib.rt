@@ -3,6 +3,7 @@
 
 pub mod agree;
 pub mod env;
+mod floats;
 pub mod goldschmidt;
 pub mod known;
 pub mod longhand;

@@ -6,6 +6,7 @@ ghost use Rattle.rootlaws.specs.Roots.{RootBits, NearestRoot};
 ghost use Rattle.rootlaws.specs.Split.{sig_of, exp_of, word_of, lift};
 ghost use Rattle.rootlaws.specs.Whole.{Nearest};
 
+use crate::floats::float_root;
 use width::{Int, Layout, Width};
 
 /// The root so far, what its square leaves, and the digits still to come.
@@ -19,10 +20,10 @@ struct Hand<I> {
 // What the next digit is drawn from, and what a digit 1 would take of it: the square of twice the
 // root and one lies four times the root and one above four times the root's square.
 fn trial<L: Layout>(hand: Hand<L::Int>) -> (L::Int, L::Int)
-    ensures drawn { L.Int.Int.nat result.0 ≡ (L.Int.Int.nat hand.rem * 4 % 2 ^ L.Int.Int.bits + L.Int.Int.nat hand.word / 2 ^ (L.Layout.shape.sig + L.Layout.shape.half)) % 2 ^ L.Int.Int.bits }
-    ensures taken { L.Int.Int.nat result.1 ≡ (L.Int.Int.nat hand.root * 4 % 2 ^ L.Int.Int.bits + 1 % 2 ^ L.Int.Int.bits) % 2 ^ L.Int.Int.bits }
+    ensures drawn { L.Int.Int.nat result.0 ≡ (L.Int.Int.nat hand.rem * 4 % 2 ^ L.Int.Int.BITS + L.Int.Int.nat hand.word / 2 ^ (L.Layout.shape.sig + L.Layout.shape.half)) % 2 ^ L.Int.Int.BITS }
+    ensures taken { L.Int.Int.nat result.1 ≡ (L.Int.Int.nat hand.root * 4 % 2 ^ L.Int.Int.BITS + 1 % 2 ^ L.Int.Int.BITS) % 2 ^ L.Int.Int.BITS }
 {
-    let digits = hand.word.shr(L::fields().bits - 2);
+    let digits = hand.word.shr(L::BITS - 2);
     let drawn = hand.rem.shl(2).wrapping_add(digits);
     let taken = hand.root.shl(2).wrapping_add(L::Int::from_u32(1));
     (drawn, taken)
@@ -35,7 +36,7 @@ fn draw<L: Layout>(hand: Hand<L::Int>) -> Hand<L::Int>
     let (drawn, taken) = trial::<L>(hand);
     let root = hand.root.shl(1);
     let word = hand.word.shl(2);
-    if drawn.lt(taken) {
+    if drawn < taken {
         Hand {
             root,
             rem: drawn,
@@ -62,7 +63,7 @@ fn drawn_root<L: Layout>(word: L::Int) -> L::Int
         rem: zero,
         word,
     };
-    let mut left = L::fields().sig_bits;
+    let mut left = L::SIG_BITS;
     loop {
         hand = draw::<L>(hand);
         if left == 0 {
@@ -74,10 +75,10 @@ fn drawn_root<L: Layout>(word: L::Int) -> L::Int
 
 // The root, or one more where what is left is past it.
 fn rounded<I: Int>(hand: Hand<I>) -> I
-    ensures up { I.Int.nat hand.root < I.Int.nat hand.rem → I.Int.nat result ≡ (I.Int.nat hand.root + 1 % 2 ^ I.Int.bits) % 2 ^ I.Int.bits }
+    ensures up { I.Int.nat hand.root < I.Int.nat hand.rem → I.Int.nat result ≡ (I.Int.nat hand.root + 1 % 2 ^ I.Int.BITS) % 2 ^ I.Int.BITS }
     ensures down { I.Int.nat hand.rem ≤ I.Int.nat hand.root → I.Int.nat result ≡ I.Int.nat hand.root }
 {
-    if hand.root.lt(hand.rem) {
+    if hand.root < hand.rem {
         hand.root.wrapping_add(I::from_u32(1))
     } else {
         hand.root
@@ -91,13 +92,12 @@ fn normalized<L: Layout>(ix: L::Int) -> (L::Int, u32)
     ensures sig { L.Int.Int.nat result.0 ≡ sig_of L.Layout.shape (L.Int.Int.nat ix) }
     ensures exp { result.1 ≡ exp_of L.Layout.shape (L.Int.Int.nat ix) }
 {
-    let f = L::fields();
-    if ix.lt(f.implicit_bit) {
-        let n = ix.leading_zeros() - f.exp_bits;
-        (ix.shl(n), 1 + f.exp_bias - n)
+    if ix < L::IMPLICIT_BIT {
+        let n = ix.leading_zeros() - L::EXP_BITS;
+        (ix.shl(n), 1 + L::EXP_BIAS - n)
     } else {
-        let sig = ix.bitand(f.sig_mask).bitor(f.implicit_bit);
-        (sig, ix.shr(f.sig_bits).low_u32() + f.exp_bias)
+        let sig = ix.bitand(L::SIG_MASK).bitor(L::IMPLICIT_BIT);
+        (sig, ix.shr(L::SIG_BITS).low_u32() + L::EXP_BIAS)
     }
 }
 
@@ -107,11 +107,10 @@ fn word_of<L: Layout>(sig: L::Int, exp: u32) -> L::Int
     requires { L.Int.Int.nat sig < 2 * 2 ^ L.Layout.shape.sig }
     ensures { L.Int.Int.nat result ≡ word_of L.Layout.shape exp (L.Int.Int.nat sig) }
 {
-    let exp_bits = L::fields().exp_bits;
     if exp % 2 == 0 {
-        sig.shl(exp_bits - 1)
+        sig.shl(L::EXP_BITS - 1)
     } else {
-        sig.shl(exp_bits)
+        sig.shl(L::EXP_BITS)
     }
 }
 
@@ -120,48 +119,35 @@ fn positive_root<L: Layout>(ix: L::Int) -> L::Int
     requires { (0 < L.Int.Int.nat ix) × (L.Int.Int.nat ix < infinity L.Layout.shape) }
     ensures { RootBits L.Layout.shape (L.Int.Int.nat ix) (L.Int.Int.nat result) }
 {
-    let f = L::fields();
     let (sig, exp) = normalized::<L>(ix);
     let word = word_of::<L>(sig, exp);
     let m = drawn_root::<L>(word);
-    let e = L::Int::from_u32(exp / 2).shl(f.sig_bits);
-    m.bitand(f.sig_mask).bitor(e)
+    let e = L::Int::from_u32(exp / 2).shl(L::SIG_BITS);
+    m.bitand(L::SIG_MASK).bitor(e)
 }
 
 /// The root of the number with the pattern `ix`, as a pattern.
 pub fn longhand<L: Layout>(ix: L::Int) -> L::Int
     ensures { RootBits L.Layout.shape (L.Int.Int.nat ix) (L.Int.Int.nat result) }
 {
-    let f = L::fields();
     // ±0
-    if ix.shl(1).eq(L::Int::from_u32(0)) {
+    if L::is_zero(ix) {
         return ix;
     }
     // Positive infinity
-    if ix.eq(f.exp_mask) {
+    if L::is_infinity(ix) {
         return ix;
     }
     // NaN or negative
-    if f.exp_mask.lt(ix) {
-        return f.quiet_nan;
+    if L::is_past_infinity(ix) {
+        return L::QUIET_NAN;
     }
     positive_root::<L>(ix)
-}
-
-// The root of the float with the pattern `ix`.
-fn root_of<W: Width>(ix: W::Int) -> W
-    requires { W.Int.Int.nat ix < 2 ^ width_of (shape_of W.Width.fmt) }
-    ensures { NearestRoot W.Width.fmt (from_bits W.Width.fmt (W.Int.Int.nat ix)) (W.Width.val result) }
-{
-    W::from_pattern(longhand::<W>(ix))
 }
 
 /// The nearest root of a float, by longhand.
 pub fn longhand_root<W: Width>(x: W) -> W
     ensures { NearestRoot W.Width.fmt (W.Width.val x) (W.Width.val result) }
 {
-    match x.pattern() {
-        None => x,
-        Some(ix) => root_of::<W>(ix),
-    }
+    float_root(x, |ix| longhand::<W>(ix))
 }

@@ -12,10 +12,12 @@ ghost use Rattle.rootlaws.specs.Split.{Stored, sig_of, exp_of, word_of, word_at,
 ghost use Rattle.rootlaws.specs.Table.{guesses};
 ghost use Rattle.rootlaws.specs.Whole.{Nearest};
 ghost use Rattle.rootlaws.specs.Words.{Kept};
+ghost use Rattle.root.specs.Normal.{is_normal};
 ghost use Rattle.root.specs.Status.{status_of};
 ghost use Rattle.rootlaws.proofs.Plans.{narrow_keeps, wide_keeps};
 
 use crate::env::{FpResult, Status};
+use crate::floats::float_root;
 use crate::goldschmidt::goldschmidt;
 use width::{HInt, Int, Layout, Width};
 
@@ -35,13 +37,6 @@ const RSQRT_TAB: [u16; 128] = [
     0xba91, 0xb9cc, 0xb90a, 0xb84a, 0xb78c, 0xb6d0, 0xb617, 0xb560,
 ];
 
-/// How many rounds a layout's root has.
-#[derive(Clone, Copy)]
-pub struct Rounds {
-    pub set2: u32,
-    pub last: u32,
-}
-
 /// What a layout brings to the root.
 pub trait SqrtHelper: Layout {
     /// The integer of the first set of rounds.
@@ -52,24 +47,19 @@ pub trait SqrtHelper: Layout {
 
     const FINAL_ROUNDS: u32;
 
-    ghost set2: { ℕ };
+    ghost SET2_ROUNDS: { ℕ };
 
-    ghost last: { ℕ };
-
-    /// The two constants, for code that is generic in the layout.
-    fn rounds() -> Rounds
-        ensures set2 { result.set2 ≡ set2 }
-        ensures last { result.last ≡ last };
+    ghost FINAL_ROUNDS: { ℕ };
 
     /// The upper bits of a word.
     fn upper(m_u2: Self::Int) -> Self::ISet2
-        ensures { Self.ISet2.Int.nat result ≡ Self.Int.Int.nat m_u2 / 2 ^ (Self.Int.Int.bits - Self.ISet2.Int.bits) };
+        ensures { Self.ISet2.Int.nat result ≡ Self.Int.Int.nat m_u2 / 2 ^ (Self.Int.Int.BITS - Self.ISet2.Int.BITS) };
 
     /// A number below 1 in the longer word.
     fn widened(r_u0: Self::ISet2) -> Self::Int
-        ensures { Self.Int.Int.nat result ≡ Self.ISet2.Int.nat r_u0 * 2 ^ (Self.Int.Int.bits - Self.ISet2.Int.bits) % 2 ^ Self.Int.Int.bits };
+        ensures { Self.Int.Int.nat result ≡ Self.ISet2.Int.nat r_u0 * 2 ^ (Self.Int.Int.BITS - Self.ISet2.Int.BITS) % 2 ^ Self.Int.Int.BITS };
 
-    ghost keeps: { Keeps (record { bits = Self.Int.Int.bits; short_bits = Self.ISet2.Int.bits; mulh = Self.Int.HInt.mulh; short_mulh = Self.ISet2.HInt.mulh; short_rounds = set2; rounds = last }) Self.Layout.shape };
+    ghost keeps: { Keeps (record { bits = Self.Int.Int.BITS; short_bits = Self.ISet2.Int.BITS; mulh = Self.Int.HInt.mulh; short_mulh = Self.ISet2.HInt.mulh; short_rounds = SET2_ROUNDS; rounds = FINAL_ROUNDS }) Self.Layout.shape };
 }
 
 impl SqrtHelper for f32 {
@@ -79,18 +69,11 @@ impl SqrtHelper for f32 {
 
     const FINAL_ROUNDS: u32 = 3;
 
-    ghost set2 = { 0 };
+    ghost SET2_ROUNDS = { 0 };
 
-    ghost last = { 3 };
+    ghost FINAL_ROUNDS = { 3 };
 
     ghost keeps = { narrow_keeps };
-
-    fn rounds() -> Rounds {
-        Rounds {
-            set2: Self::SET2_ROUNDS,
-            last: Self::FINAL_ROUNDS,
-        }
-    }
 
     fn upper(m_u2: u32) -> u32 {
         m_u2
@@ -108,18 +91,11 @@ impl SqrtHelper for f64 {
 
     const FINAL_ROUNDS: u32 = 2;
 
-    ghost set2 = { 2 };
+    ghost SET2_ROUNDS = { 2 };
 
-    ghost last = { 2 };
+    ghost FINAL_ROUNDS = { 2 };
 
     ghost keeps = { wide_keeps };
-
-    fn rounds() -> Rounds {
-        Rounds {
-            set2: Self::SET2_ROUNDS,
-            last: Self::FINAL_ROUNDS,
-        }
-    }
 
     fn upper(m_u2: u64) -> u32 {
         (m_u2 >> 32) as u32
@@ -140,39 +116,37 @@ fn entry(i: u32) -> u16
 // The first guess at `1 / sqrt(m_u2)`, from the lowest exponent bit and the top six bits of the
 // significand.
 fn first_guess<F: SqrtHelper>(ix: F::Int) -> F::ISet2
-    ensures { F.ISet2.Int.nat result ≡ slice_index guesses (F.Int.Int.nat ix / 2 ^ (F.Layout.shape.sig - 6) % 128) * 2 ^ (F.ISet2.Int.bits - 16) }
+    ensures { F.ISet2.Int.nat result ≡ slice_index guesses (F.Int.Int.nat ix / 2 ^ (F.Layout.shape.sig - 6) % 128) * 2 ^ (F.ISet2.Int.BITS - 16) }
 {
-    let i = ix.shr(F::fields().sig_bits - 6).low_u32() % 128;
-    F::ISet2::from_u32(entry(i) as u32).shl(F::ISet2::size() - 16)
+    let i = ix.shr(F::SIG_BITS - 6).low_u32() % 128;
+    F::ISet2::from_u32(entry(i) as u32).shl(F::ISet2::BITS - 16)
 }
 
 // What is kept of the root after both sets of rounds.
 fn kept<F: SqrtHelper>(ix: F::Int, m_u2: F::Int) -> F::Int
     ensures { F.Int.Int.nat m_u2 ≡ word_at F.Layout.shape (F.Int.Int.nat ix) → Kept (F.Int.Int.nat m_u2 * 2 ^ lift F.Layout.shape) (F.Int.Int.nat result) }
 {
-    let rounds = F::rounds();
-    let (r2_u0, _) = goldschmidt(first_guess::<F>(ix), F::upper(m_u2), rounds.set2, false);
-    let (_, s_u2) = goldschmidt(F::widened(r2_u0), m_u2, rounds.last, true);
-    s_u2.shr(F::fields().exp_bits - 2)
+    let (r2_u0, _) = goldschmidt(first_guess::<F>(ix), F::upper(m_u2), F::SET2_ROUNDS, false);
+    let (_, s_u2) = goldschmidt(F::widened(r2_u0), m_u2, F::FINAL_ROUNDS, true);
+    s_u2.shr(F::EXP_BITS - 2)
 }
 
 // The sign bit of `m^2 + m - 2^shift m_u2`, in words that wrap: whether the root lies past
 // `m + 1/2`.
 fn past_half<I: Int>(m_u2: I, m: I, shift: u32) -> I
-    ensures { I.Int.nat result ≡ (I.Int.nat m + 2 ^ I.Int.bits - (I.Int.nat m_u2 * 2 ^ shift % 2 ^ I.Int.bits + 2 ^ I.Int.bits - I.Int.nat m * I.Int.nat m % 2 ^ I.Int.bits) % 2 ^ I.Int.bits) % 2 ^ I.Int.bits / 2 ^ (I.Int.bits - 1) }
+    ensures { I.Int.nat result ≡ (I.Int.nat m + 2 ^ I.Int.BITS - (I.Int.nat m_u2 * 2 ^ shift % 2 ^ I.Int.BITS + 2 ^ I.Int.BITS - I.Int.nat m * I.Int.nat m % 2 ^ I.Int.BITS) % 2 ^ I.Int.BITS) % 2 ^ I.Int.BITS / 2 ^ (I.Int.BITS - 1) }
 {
     let d0 = m_u2.shl(shift).wrapping_sub(m.wrapping_mul(m));
     let d1 = m.wrapping_sub(d0);
-    d1.shr(I::size() - 1)
+    d1.shr(I::BITS - 1)
 }
 
 // The last step: `m`, or one more.
 fn decided<F: SqrtHelper>(m_u2: F::Int, m: F::Int) -> F::Int
     ensures { F.Int.Int.nat m_u2 < 4 * 2 ^ (F.Layout.shape.sig + F.Layout.shape.half) → Kept (F.Int.Int.nat m_u2 * 2 ^ lift F.Layout.shape) (F.Int.Int.nat m) → Nearest (F.Int.Int.nat m_u2 * 2 ^ lift F.Layout.shape) (F.Int.Int.nat result) }
 {
-    let f = F::fields();
     // `m_u2` has `BITS - 2` places after its point, and the square of `m` has `2 * SIG_BITS`.
-    let shift = 2 * f.sig_bits - (f.bits - 2);
+    let shift = 2 * F::SIG_BITS - (F::BITS - 2);
     m.wrapping_add(past_half(m_u2, m, shift))
 }
 
@@ -180,9 +154,8 @@ fn decided<F: SqrtHelper>(m_u2: F::Int, m: F::Int) -> F::Int
 fn halved_in_place<F: SqrtHelper>(ix: F::Int) -> F::Int
     ensures { F.Int.Int.nat result ≡ (F.Int.Int.nat ix / 2 ^ F.Layout.shape.sig + bias F.Layout.shape) / 2 % 2 ^ suc F.Layout.shape.half * 2 ^ F.Layout.shape.sig }
 {
-    let f = F::fields();
-    let half_bias = F::Int::from_u32(f.exp_bias).shl(f.sig_bits - 1);
-    ix.shr(1).wrapping_add(half_bias).bitand(f.exp_mask)
+    let half_bias = F::Int::from_u32(F::EXP_BIAS).shl(F::SIG_BITS - 1);
+    ix.shr(1).wrapping_add(half_bias).bitand(F::EXP_MASK)
 }
 
 // Reduces the argument such that `x = 4^e * m`, with the exponent in place: the word `m_u2`, and
@@ -191,24 +164,23 @@ fn reduced_in_place<F: SqrtHelper>(ix: F::Int) -> (F::Int, F::Int)
     ensures word { F.Int.Int.nat result.0 ≡ word_at F.Layout.shape (F.Int.Int.nat ix) }
     ensures exp { F.Int.Int.nat result.1 ≡ (F.Int.Int.nat ix / 2 ^ F.Layout.shape.sig + bias F.Layout.shape) / 2 % 2 ^ suc F.Layout.shape.half * 2 ^ F.Layout.shape.sig }
 {
-    let f = F::fields();
     let e_noshift = halved_in_place::<F>(ix);
-    if ix.bitand(f.implicit_bit).eq(F::Int::from_u32(0)) {
-        (ix.shl(f.exp_bits).bitor(f.sign_mask), e_noshift)
+    let even = ix.bitand(F::IMPLICIT_BIT) == F::Int::from_u32(0);
+    if even {
+        (ix.shl(F::EXP_BITS).bitor(F::SIGN_MASK), e_noshift)
     } else {
-        (ix.shl(f.exp_bits - 1).bitand(f.sign_mask.not()), e_noshift)
+        (ix.shl(F::EXP_BITS - 1).bitand(F::SIGN_MASK.not()), e_noshift)
     }
 }
 
 // The same with the exponent shifted out of the pattern, as `top`, which wraps below zero.
 fn reduced_shifted<F: SqrtHelper>(ix: F::Int, top: u32) -> (F::Int, F::Int)
     ensures word { top % 2 ≡ F.Int.Int.nat ix / 2 ^ F.Layout.shape.sig % 2 → F.Int.Int.nat result.0 ≡ word_at F.Layout.shape (F.Int.Int.nat ix) }
-    ensures exp { F.Int.Int.nat result.1 ≡ (top + bias F.Layout.shape) % 2 ^ 32 / 2 % 2 ^ F.Int.Int.bits * 2 ^ F.Layout.shape.sig % 2 ^ F.Int.Int.bits }
+    ensures exp { F.Int.Int.nat result.1 ≡ (top + bias F.Layout.shape) % 2 ^ 32 / 2 % 2 ^ F.Int.Int.BITS * 2 ^ F.Layout.shape.sig % 2 ^ F.Int.Int.BITS }
 {
-    let f = F::fields();
-    let m_u2 = ix.bitor(f.implicit_bit).shl(f.exp_bits);
-    let e = top.wrapping_add(f.exp_bias) >> 1;
-    let exp = F::Int::from_u32(e).shl(f.sig_bits);
+    let m_u2 = ix.bitor(F::IMPLICIT_BIT).shl(F::EXP_BITS);
+    let e = top.wrapping_add(F::EXP_BIAS) >> 1;
+    let exp = F::Int::from_u32(e).shl(F::SIG_BITS);
     if top % 2 == 1 {
         (m_u2.shr(1), exp)
     } else {
@@ -220,7 +192,7 @@ fn reduced_shifted<F: SqrtHelper>(ix: F::Int, top: u32) -> (F::Int, F::Int)
 fn reduced<F: SqrtHelper>(ix: F::Int, top: u32) -> (F::Int, F::Int)
     ensures { (b : ℕ) → Stored F.Layout.shape b (F.Int.Int.nat ix) top → (F.Int.Int.nat result.0 ≡ word_of F.Layout.shape (exp_of F.Layout.shape b) (sig_of F.Layout.shape b)) × (F.Int.Int.nat result.0 ≡ word_at F.Layout.shape (F.Int.Int.nat ix)) × (F.Int.Int.nat result.1 ≡ exp_of F.Layout.shape b / 2 * 2 ^ F.Layout.shape.sig) }
 {
-    if F::fields().bits <= 32 {
+    if F::BITS <= 32 {
         reduced_in_place::<F>(ix)
     } else {
         reduced_shifted::<F>(ix, top)
@@ -233,7 +205,7 @@ fn root_at<F: SqrtHelper>(ix: F::Int, top: u32) -> F::Int
 {
     let (m_u2, exp) = reduced::<F>(ix, top);
     let m = decided::<F>(m_u2, kept::<F>(ix, m_u2));
-    m.bitand(F::fields().sig_mask).bitor(exp)
+    m.bitand(F::SIG_MASK).bitor(exp)
 }
 
 // A subnormal brought to a leading one by its count of leading zero bits. The shift is taken off
@@ -242,74 +214,45 @@ fn normalized<F: SqrtHelper>(ix: F::Int) -> (F::Int, u32)
     requires { (0 < F.Int.Int.nat ix) × (F.Int.Int.nat ix < 2 ^ F.Layout.shape.sig) }
     ensures { Stored F.Layout.shape (F.Int.Int.nat ix) (F.Int.Int.nat result.0) result.1 }
 {
-    let f = F::fields();
-    let n = ix.leading_zeros() - f.exp_bits;
-    let shifted = ix.shl(n).wrapping_sub(F::Int::from_u32(n).shl(f.sig_bits));
+    let n = ix.leading_zeros() - F::EXP_BITS;
+    let shifted = ix.shl(n).wrapping_sub(F::Int::from_u32(n).shl(F::SIG_BITS));
     (shifted, 1u32.wrapping_sub(n))
 }
 
 // Whether the pattern is not that of a positive normal number.
 fn special_case<F: SqrtHelper>(ix: F::Int) -> bool
-    ensures { F.Int.Int.nat ix < 2 ^ F.Int.Int.bits → result ≡ not (nat_le (2 ^ F.Layout.shape.sig) (F.Int.Int.nat ix) && nat_lt (F.Int.Int.nat ix) (infinity F.Layout.shape)) }
+    ensures { F.Int.Int.nat ix < 2 ^ F.Int.Int.BITS → result ≡ not (is_normal F.Layout.shape (F.Int.Int.nat ix)) }
 {
-    let f = F::fields();
-    if f.bits <= 32 {
-        let exp_lsb = f.implicit_bit;
-        !ix.wrapping_sub(exp_lsb)
-            .lt(f.exp_mask.wrapping_sub(exp_lsb))
+    if F::BITS <= 32 {
+        let exp_lsb = F::IMPLICIT_BIT;
+        ix.wrapping_sub(exp_lsb) >= F::EXP_MASK.wrapping_sub(exp_lsb)
     } else {
-        let top = ix.shr(f.sig_bits).low_u32();
-        let exp_sat = 2 * f.exp_bias + 1;
+        let top = ix.shr(F::SIG_BITS).low_u32();
+        let exp_sat = 2 * F::EXP_BIAS + 1;
         top.wrapping_sub(1) >= exp_sat - 1
     }
 }
 
 // The root of what is no positive normal number.
 fn special_root<F: SqrtHelper>(ix: F::Int) -> FpResult<F::Int>
-    requires { not (nat_le (2 ^ F.Layout.shape.sig) (F.Int.Int.nat ix) && nat_lt (F.Int.Int.nat ix) (infinity F.Layout.shape)) ≡ true }
+    requires { is_normal F.Layout.shape (F.Int.Int.nat ix) ≡ false }
     ensures root { RootBits F.Layout.shape (F.Int.Int.nat ix) (F.Int.Int.nat result.val) }
     ensures status { result.status ≡ status_of F.Layout.shape (F.Int.Int.nat ix) }
 {
-    let f = F::fields();
     // +/-0
-    if ix.shl(1).eq(F::Int::from_u32(0)) {
-        return FpResult {
-            val: ix,
-            status: Status::Ok,
-        };
+    if F::is_zero(ix) {
+        return FpResult::ok(ix);
     }
     // Positive infinity
-    if ix.eq(f.exp_mask) {
-        return FpResult {
-            val: ix,
-            status: Status::Ok,
-        };
+    if F::is_infinity(ix) {
+        return FpResult::ok(ix);
     }
     // NaN or negative
-    if f.exp_mask.lt(ix) {
-        return FpResult {
-            val: f.quiet_nan,
-            status: Status::Invalid,
-        };
+    if F::is_past_infinity(ix) {
+        return FpResult::new(F::QUIET_NAN, Status::Invalid);
     }
     let (ix, top) = normalized::<F>(ix);
-    FpResult {
-        val: root_at::<F>(ix, top),
-        status: Status::Ok,
-    }
-}
-
-// The root of a positive normal number, whose exponent field is `top`.
-fn normal_root<F: SqrtHelper>(ix: F::Int, top: u32) -> FpResult<F::Int>
-    requires number { not (nat_le (2 ^ F.Layout.shape.sig) (F.Int.Int.nat ix) && nat_lt (F.Int.Int.nat ix) (infinity F.Layout.shape)) ≡ false }
-    requires exponent { top ≡ F.Int.Int.nat ix / 2 ^ F.Layout.shape.sig % 2 ^ 32 }
-    ensures root { RootBits F.Layout.shape (F.Int.Int.nat ix) (F.Int.Int.nat result.val) }
-    ensures status { result.status ≡ status_of F.Layout.shape (F.Int.Int.nat ix) }
-{
-    FpResult {
-        val: root_at::<F>(ix, top),
-        status: Status::Ok,
-    }
+    FpResult::ok(root_at::<F>(ix, top))
 }
 
 /// The root of the number with the pattern `ix`, as a pattern, with its status.
@@ -317,42 +260,31 @@ pub fn sqrt_round<F: SqrtHelper>(ix: F::Int) -> FpResult<F::Int>
     ensures root { RootBits F.Layout.shape (F.Int.Int.nat ix) (F.Int.Int.nat result.val) }
     ensures status { result.status ≡ status_of F.Layout.shape (F.Int.Int.nat ix) }
 {
-    let top = ix.shr(F::fields().sig_bits).low_u32();
+    let top = ix.shr(F::SIG_BITS).low_u32();
     if special_case::<F>(ix) {
         special_root::<F>(ix)
     } else {
-        normal_root::<F>(ix, top)
+        FpResult::ok(root_at::<F>(ix, top))
     }
 }
 
-// The root of the float with the pattern `ix`.
-fn root_of<W: Width + SqrtHelper>(ix: W::Int) -> W
-    requires { W.Int.Int.nat ix < 2 ^ width_of (shape_of W.Width.fmt) }
-    ensures { NearestRoot W.Width.fmt (from_bits W.Width.fmt (W.Int.Int.nat ix)) (W.Width.val result) }
-{
-    W::from_pattern(sqrt_round::<W>(ix).val)
-}
-
-// NaN is told before its pattern is read.
-fn float_root<W: Width + SqrtHelper>(x: W) -> W
+/// The square root of a float of either width.
+pub fn square_root<W: Width + SqrtHelper>(x: W) -> W
     ensures { NearestRoot W.Width.fmt (W.Width.val x) (W.Width.val result) }
 {
-    match x.pattern() {
-        None => x,
-        Some(ix) => root_of::<W>(ix),
-    }
+    float_root(x, |ix| sqrt_round::<W>(ix).val)
 }
 
 /// The square root of `x` (f64).
 pub fn sqrt(x: f64) -> f64
     ensures { NearestRoot binary64 x result }
 {
-    float_root::<f64>(x)
+    square_root::<f64>(x)
 }
 
 /// The square root of `x` (f32).
 pub fn sqrtf(x: f32) -> f32
     ensures { NearestRoot binary32 x result }
 {
-    float_root::<f32>(x)
+    square_root::<f32>(x)
 }

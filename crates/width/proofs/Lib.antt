@@ -2,3 +2,4 @@ pub mod Shifts
 pub mod Patterns
 pub mod Products
 pub mod Zeros
+pub mod Order

@@ -13,7 +13,7 @@ unfolding raised_by
 loop-reading-preserved g c =
     let step = λ (n : ℕ). ap (λ x. raised_by x n) (sym (add-one c.loop-reading.reading-index)) in
     let inv = c.loop-reading.invariant in
-    let both = c.same_root.ensures in
+    let both = c.same_answer.ensures in
     (both.first ∙ ap raised inv.0 ∙ step _, both.second ∙ ap raised inv.1 ∙ step _)
 
 pub returns : goal.returns

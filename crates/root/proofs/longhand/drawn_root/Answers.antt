@@ -5,7 +5,7 @@ use Rattle.root.proofs.Drawn.{quarter, kept_start, kept_next, drawn_nearest}
 use Rattle.root.proofs.longhand.drawn_root.Goals as goal
 
 pub loop-left-init : goal.loop-left-init
-loop-left-init g c = kept_start g.L.Layout.shape _ _ _ c.fields-left.ensures.sig_bits (c.from_u32-zero.ensures ∙ zero-mod _) c.requires.1
+loop-left-init g c = kept_start g.L.Layout.shape _ _ _ (c.SIG_BITS-left.ensures ∙ g.met.L.Layout.fields.sig_bits) (c.from_u32-zero.ensures ∙ zero-mod _) c.requires.1
 
 pub loop-left-preserved : goal.loop-left-preserved
 loop-left-preserved g c =
@@ -22,6 +22,6 @@ returns g c =
     let h = c.draw-hand.result in
     let k : S.sig - c.loop-left.left ≤ S.sig = omega arith in
     let e : S.sig - c.loop-left.left ≡ S.sig = omega arith in
-    drawn_nearest S g.met.L.Layout.sound _ g.met.L.Layout.whole _ _ _ _ _ c.requires.0
+    drawn_nearest S g.L.Layout.sound _ g.met.L.Layout.whole _ _ _ _ _ c.requires.0
     (subst (λ x. Held (quarter S) (n c.args.word) (Prim.Native.Nat.suc x) (n h.root) (n h.rem) (n h.word)) e (c.draw-hand.ensures _ _ k c.loop-left.invariant.1))
     c.rounded.ensures.up c.rounded.ensures.down
