@@ -95,7 +95,8 @@ impl<R: Routine> Unit<R> {
     fn one_more(&mut self)
         ensures { self.new.roots ≡ raised self.old.roots }
     {
-        self.roots = self.roots.saturating_add(1);
+        let Unit { roots, .. } = self;
+        *roots = roots.saturating_add(1);
     }
 }
 
