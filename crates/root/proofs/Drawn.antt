@@ -1,6 +1,7 @@
 -- The loop of the longhand root: where it starts, what a turn keeps, and what it is left with.
-use Rattle.std.proofs.Common.{◌≡◌, ℕ, suc, ◌+◌, ◌-◌, ◌*◌, ◌%◌, ◌^◌, ◌<◌, ◌≤◌, sym, ap, ◌∙◌, subst, subst₂, mod-eq_of_lt, mul_assoc, mul-pos, arith}
+use Rattle.std.proofs.Common.{◌≡◌, ℕ, Option, Some, None, true, false, true≢false, is_some, suc, ◌+◌, ◌-◌, ◌*◌, ◌%◌, ◌^◌, ◌<◌, ◌≤◌, sym, ap, ◌∙◌, subst, subst₂, mod-eq_of_lt, mul_assoc, mul-pos, arith}
 use native.Mathlib.Nat.{pow-succ'}
+use Rattle.std.specs.Option.{MatchOption}
 use Rattle.std.proofs.lemmas.Nat.{pow_pos, pow-add}
 use Rattle.width.specs.Shape.{Shape, Sound, width}
 use Rattle.rootlaws.specs.Longhand.{Held, Exact}
@@ -26,6 +27,15 @@ pub kept_next : (S : Shape) (M left root rem word : ℕ) → 0 < left → left �
 kept_next S M left root rem word p l h =
     let o : suc (S.sig - left) ≡ S.sig - (left - 1) = omega arith in
     (omega arith, subst (λ x. Held (quarter S) M x root rem word) o h)
+
+-- one place fewer, or none
+pub place_taken : (o : Option ℕ) (start end start' end' : ℕ) → (end' ≡ end) × MatchOption o ((end - start ≡ 0) × (start' ≡ start)) (λ x. (0 < end - start) × (x ≡ start) × (start' ≡ start + 1)) → is_some o ≡ true → (0 < end - start) × (end' - start' ≡ end - start - 1)
+place_taken (Some x) start end start' end' (e, (p, i, q)) t = (p, omega arith)
+place_taken None start end start' end' h t = absurd (true≢false (sym t))
+
+pub no_place : (o : Option ℕ) (start end start' end' : ℕ) → (end' ≡ end) × MatchOption o ((end - start ≡ 0) × (start' ≡ start)) (λ x. (0 < end - start) × (x ≡ start) × (start' ≡ start + 1)) → is_some o ≡ false → end - start ≡ 0
+no_place (Some x) start end start' end' h t = absurd (true≢false t)
+no_place None start end start' end' h t = h.1.0
 
 -- M 4^(sig + 1) = X W
 square_word : (S : Shape) → Sound S → (M : ℕ) → M * (2 ^ suc S.sig * 2 ^ suc S.sig) ≡ M * 2 ^ lift S * (4 * quarter S)

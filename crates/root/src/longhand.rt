@@ -63,13 +63,12 @@ fn drawn_root<L: Layout>(word: L::Int) -> L::Int
         rem: zero,
         word,
     };
-    let mut left = L::SIG_BITS;
+    let mut places = 0..L::SIG_BITS;
     loop {
         hand = draw::<L>(hand);
-        if left == 0 {
+        if places.next().is_none() {
             break rounded(hand);
         }
-        left -= 1;
     }
 }
 

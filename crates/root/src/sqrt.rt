@@ -188,35 +188,44 @@ fn reduced_shifted<F: SqrtHelper>(ix: F::Int, top: u32) -> (F::Int, F::Int)
     }
 }
 
+// A positive number: its pattern with a leading one, and its exponent field, which wraps below zero.
+#[derive(Clone, Copy)]
+struct Positive<I> {
+    ix: I,
+    top: u32,
+}
+
 // The exponent is kept in place where the pattern fits into 32 bits, which saves the shifts.
-fn reduced<F: SqrtHelper>(ix: F::Int, top: u32) -> (F::Int, F::Int)
-    ensures { (b : ℕ) → Stored F.Layout.shape b (F.Int.Int.nat ix) top → (F.Int.Int.nat result.0 ≡ word_of F.Layout.shape (exp_of F.Layout.shape b) (sig_of F.Layout.shape b)) × (F.Int.Int.nat result.0 ≡ word_at F.Layout.shape (F.Int.Int.nat ix)) × (F.Int.Int.nat result.1 ≡ exp_of F.Layout.shape b / 2 * 2 ^ F.Layout.shape.sig) }
+fn reduced<F: SqrtHelper>(x: Positive<F::Int>) -> (F::Int, F::Int)
+    ensures { (b : ℕ) → Stored F.Layout.shape b (F.Int.Int.nat x.ix) x.top → (F.Int.Int.nat result.0 ≡ word_of F.Layout.shape (exp_of F.Layout.shape b) (sig_of F.Layout.shape b)) × (F.Int.Int.nat result.0 ≡ word_at F.Layout.shape (F.Int.Int.nat x.ix)) × (F.Int.Int.nat result.1 ≡ exp_of F.Layout.shape b / 2 * 2 ^ F.Layout.shape.sig) }
 {
     if F::BITS <= 32 {
-        reduced_in_place::<F>(ix)
+        reduced_in_place::<F>(x.ix)
     } else {
-        reduced_shifted::<F>(ix, top)
+        reduced_shifted::<F>(x.ix, x.top)
     }
 }
 
-// The root of a positive number, by its pattern with a leading one and its exponent.
-fn root_at<F: SqrtHelper>(ix: F::Int, top: u32) -> F::Int
-    ensures { (b : ℕ) → Stored F.Layout.shape b (F.Int.Int.nat ix) top → RootBits F.Layout.shape b (F.Int.Int.nat result) }
+// The root of a positive number.
+fn root_at<F: SqrtHelper>(x: Positive<F::Int>) -> F::Int
+    ensures { (b : ℕ) → Stored F.Layout.shape b (F.Int.Int.nat x.ix) x.top → RootBits F.Layout.shape b (F.Int.Int.nat result) }
 {
-    let (m_u2, exp) = reduced::<F>(ix, top);
-    let m = decided::<F>(m_u2, kept::<F>(ix, m_u2));
+    let (m_u2, exp) = reduced::<F>(x);
+    let m = decided::<F>(m_u2, kept::<F>(x.ix, m_u2));
     m.bitand(F::SIG_MASK).bitor(exp)
 }
 
 // A subnormal brought to a leading one by its count of leading zero bits. The shift is taken off
 // the exponent, which the table's index and the reduction read.
-fn normalized<F: SqrtHelper>(ix: F::Int) -> (F::Int, u32)
+fn normalized<F: SqrtHelper>(ix: F::Int) -> Positive<F::Int>
     requires { (0 < F.Int.Int.nat ix) × (F.Int.Int.nat ix < 2 ^ F.Layout.shape.sig) }
-    ensures { Stored F.Layout.shape (F.Int.Int.nat ix) (F.Int.Int.nat result.0) result.1 }
+    ensures { Stored F.Layout.shape (F.Int.Int.nat ix) (F.Int.Int.nat result.ix) result.top }
 {
     let n = ix.leading_zeros() - F::EXP_BITS;
-    let shifted = ix.shl(n).wrapping_sub(F::Int::from_u32(n).shl(F::SIG_BITS));
-    (shifted, 1u32.wrapping_sub(n))
+    Positive {
+        ix: ix.shl(n).wrapping_sub(F::Int::from_u32(n).shl(F::SIG_BITS)),
+        top: 1u32.wrapping_sub(n),
+    }
 }
 
 // Whether the pattern is not that of a positive normal number.
@@ -251,8 +260,7 @@ fn special_root<F: SqrtHelper>(ix: F::Int) -> FpResult<F::Int>
     if F::is_past_infinity(ix) {
         return FpResult::new(F::QUIET_NAN, Status::Invalid);
     }
-    let (ix, top) = normalized::<F>(ix);
-    FpResult::ok(root_at::<F>(ix, top))
+    FpResult::ok(root_at::<F>(normalized::<F>(ix)))
 }
 
 /// The root of the number with the pattern `ix`, as a pattern, with its status.
@@ -264,7 +272,7 @@ pub fn sqrt_round<F: SqrtHelper>(ix: F::Int) -> FpResult<F::Int>
     if special_case::<F>(ix) {
         special_root::<F>(ix)
     } else {
-        FpResult::ok(root_at::<F>(ix, top))
+        FpResult::ok(root_at::<F>(Positive { ix, top }))
     }
 }
 

@@ -1,5 +1,6 @@
--- The order of words is that of the numbers they stand for.
-use Rattle.std.proofs.Common.{◌≡◌, ℕ, ◌<◌, ◌≤◌, Bool, true, false, not, Option, Some, ltb, ltb-true, ltb-false, sym, ap, ◌∙◌, arith}
+-- Order and equality of words are those of the numbers they stand for.
+use Rattle.std.proofs.Common.{◌≡◌, ℕ, ◌<◌, ◌≤◌, Bool, true, false, not, Option, Some, ltb, eqb, ltb-true, ltb-false, eqb-true, eq-eqb, sym, ap, ◌∙◌, arith}
+use borrow.Author.Tests.{eqb-false}
 use Rattle.std.specs.declared.cmp.Ordering.{Ordering}
 use Rattle.std.specs.Ordering.{nat_cmp, is_lt, is_ge, is_some_and, partial_lt, partial_ge}
 use Rattle.std.proofs.lemmas.Bool.Decides.{nat_tests}
@@ -22,3 +23,13 @@ module _ {I : Type 0} (nat : I → ℕ) (compared : I → I → Option Ordering)
 
   pub less_false : (x y : I) (b : Bool) → b ≡ partial_lt compared x y → b ≡ false → nat y ≤ nat x
   less_false x y b e t = ltb-false (nat x) (nat y) (sym (e ∙ less x y) ∙ t)
+
+module _ {I : Type 0} (nat : I → ℕ) (equal : I → I → Bool) (law : (x y : I) → equal x y ≡ eqb (nat x) (nat y)) where
+  pub same_true : (x y : I) (b : Bool) → b ≡ equal x y → nat x ≡ nat y → b ≡ true
+  same_true x y b e i = e ∙ law x y ∙ eq-eqb (nat x) (nat y) i
+
+  pub true_same : (x y : I) (b : Bool) → b ≡ equal x y → b ≡ true → nat x ≡ nat y
+  true_same x y b e t = eqb-true (nat x) (nat y) (sym (e ∙ law x y) ∙ t)
+
+  pub false_other : (x y : I) (b : Bool) → b ≡ equal x y → b ≡ false → nat x ≡ nat y → ⊥
+  false_other x y b e t = eqb-false (nat x) (nat y) (sym (e ∙ law x y) ∙ t)

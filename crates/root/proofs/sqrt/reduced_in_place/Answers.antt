@@ -1,5 +1,5 @@
-use Rattle.std.proofs.Common.{◌-◌, ◌^◌, sym, ap, ◌∙◌, eqb-true}
-use borrow.Author.Tests.{eqb-false}
+use Rattle.std.proofs.Common.{◌-◌, ◌^◌, sym, ap, ◌∙◌}
+use Rattle.width.proofs.Order.{true_same, false_other}
 use native.Mathlib.Nat.{zero-mod}
 use lib.Bits.{bit_and, bit_or}
 use Rattle.root.proofs.Ported.{word_even_place, word_odd_place}
@@ -9,7 +9,7 @@ pub returns-then-even : goal.returns-then-even
 returns-then-even g c =
     let f = g.met.F.Layout.fields in
     let n = g.F.Int.Int.nat in
-    let even = sym c.bitand.ensures ∙ eqb-true _ _ (sym (c.eq-even.ensures ∙ g.met.F.Int.Int.eqs _ _) ∙ c.if-even.true) ∙ c.from_u32.ensures ∙ zero-mod _ in
+    let even = sym c.bitand.ensures ∙ true_same n _ g.met.F.Int.Int.eqs _ _ _ c.eq-even.ensures c.if-even.true ∙ c.from_u32.ensures ∙ zero-mod _ in
     record {
       word = c.bitor.ensures ∙ ap (λ y. bit_or y (n c.SIGN_MASK.result)) c.shl.ensures
           ∙ word_even_place g.F.Layout.shape g.F.Layout.sound _ g.met.F.Layout.whole (n c.args.ix) _ _ _ even (ap n c.IMPLICIT_BIT.ensures ∙ f.implicit_bit) (ap n c.SIGN_MASK.ensures ∙ f.sign_mask) (c.EXP_BITS.ensures ∙ f.exp_bits);
@@ -20,7 +20,7 @@ pub returns-else-even : goal.returns-else-even
 returns-else-even g c =
     let f = g.met.F.Layout.fields in
     let n = g.F.Int.Int.nat in
-    let odd = eqb-false _ _ (sym (c.eq-even.ensures ∙ g.met.F.Int.Int.eqs _ _) ∙ c.if-even.false) in
+    let odd = false_other n _ g.met.F.Int.Int.eqs _ _ _ c.eq-even.ensures c.if-even.false in
     let rest = c.not.ensures ∙ ap (λ y. 2 ^ g.F.Int.Int.BITS - 1 - y) (ap n c.SIGN_MASK-else-even.ensures ∙ f.sign_mask) in
     record {
       word = c.bitand-else-even.ensures ∙ ap (λ y. bit_and y (n c.not.result)) c.shl-else-even.ensures

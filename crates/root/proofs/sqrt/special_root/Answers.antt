@@ -25,4 +25,4 @@ returns g c =
     let S = g.F.Layout.shape in
     let b = g.F.Int.Int.nat c.args.ix in
     let h = ltb-false _ _ (sym c.is_past_infinity.ensures ∙ c.if-is_past_infinity.false) in
-    record { root = subst (λ y. RootBits S b (g.F.Int.Int.nat y)) (sym c.ok-2.ensures.val) (c.root_at.ensures _ c.normalized-ix.ensures); status = c.ok-2.ensures.status ∙ sym (status_ok S b h) }
+    record { root = subst (λ y. RootBits S b (g.F.Int.Int.nat y)) (sym c.ok-2.ensures.val) (c.root_at.ensures _ c.normalized.ensures); status = c.ok-2.ensures.status ∙ sym (status_ok S b h) }
