@@ -16,15 +16,5 @@ loop-reading-preserved g c =
     let both = c.same_answer.ensures in
     (both.first ∙ ap raised inv.0 ∙ step _, both.second ∙ ap raised inv.1 ∙ step _)
 
-pub returns : goal.returns
-returns g c =
-    let all : c.loop-reading.reading-index ≡ length c.args.readings.now = omega arith in
-    let of = λ (n : ℕ). ap (λ k. raised_by k n) all in
-    let inv = c.loop-reading.invariant in
-    record {
-      roots = refl;
-      run = one_run;
-      first = inv.0 ∙ of _;
-      second = inv.1 ∙ of _;
-      counts = λ same. inv.0 ∙ ap (raised_by c.loop-reading.reading-index) same ∙ sym inv.1;
-    }
+pub returns-clause-run : goal.returns-clause-run
+returns-clause-run g c = one_run

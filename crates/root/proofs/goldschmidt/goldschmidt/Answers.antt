@@ -24,12 +24,3 @@ loop-i-preserved g c =
     (turn_holds V W (quarters g.I.Int.BITS g.met.I.Int.wide) (pow_pos (g.I.Int.BITS - 2)) m (n c.shl-three_u2.result) three h _ (n c.loop-i.r_u0) (n c.loop-i.s_u2) (n c.loop-i.u_u0) _ _ _ _ c.loop-i.invariant
     (c.doubled-s_u2.ensures ∙ ap (λ x. cond h (x * 2 % W) x) c.wmulh.ensures) c.wmulh-d_u2.ensures c.wrapping_sub-u_u0.ensures
     (c.shl-r_u0.ensures ∙ ap (λ x. x * 2 % W) c.wmulh-in-loop-i.ensures))
-
-pub returns : goal.returns
-returns g c =
-    let n = g.I.Int.nat in
-    let l = c.loop-i-test.false in
-    let k = c.loop-i.auto.i-end in
-    let e : c.loop-i.i ≡ c.args.count = omega arith in
-    let t = subst (λ x. Holds (turns (2 ^ (g.I.Int.BITS - 2)) g.I.HInt.mulh c.args.count c.args.final_set (begin (n c.args.r_u0) (n c.args.s_u2)) x) (n c.loop-i.r_u0) (n c.loop-i.s_u2) (n c.loop-i.u_u0)) e c.loop-i.invariant in
-    record { rec = t.rec; root = t.root }

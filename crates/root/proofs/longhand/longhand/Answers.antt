@@ -5,8 +5,3 @@ use Rattle.root.proofs.longhand.longhand.Goals as goal
 
 pub returns-then-is_zero : goal.returns-then-is_zero
 returns-then-is_zero g c = zero_root g.L.Layout.shape _ (eqb-true _ _ (sym c.is_zero.ensures ∙ c.if-is_zero.true))
-
-pub returns-then-is_past_infinity : goal.returns-then-is_past_infinity
-returns-then-is_past_infinity g c =
-    none_root g.L.Layout.shape _ (eqb-false _ _ (sym c.is_zero.ensures ∙ c.if-is_zero.false)) (ltb-true _ _ (sym c.is_past_infinity.ensures ∙ c.if-is_past_infinity.true)) _
-    (ap g.L.Int.Int.nat c.QUIET_NAN.ensures ∙ g.met.L.Layout.fields.quiet_nan)

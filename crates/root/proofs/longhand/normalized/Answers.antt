@@ -10,19 +10,11 @@ overflow_sub-n g c =
     let h = subst (λ x. g.L.Int.Int.nat c.args.ix < x) (ap g.L.Int.Int.nat c.IMPLICIT_BIT.ensures ∙ f.implicit_bit) (less_true g.L.Int.Int.nat _ g.met.L.Int.Int.cmps _ _ _ c.lt.ensures c.if-lt.true) in
     zeros_enough g.L.Layout.shape g.L.Layout.sound _ c.requires.0 _ g.met.L.Layout.whole h _ _ _ c.leading_zeros.ensures (c.EXP_BITS.ensures ∙ f.exp_bits) f.exp_bias
 
-pub returns-then-lt : goal.returns-then-lt
-returns-then-lt g c =
-    let S = g.L.Layout.shape in
-    let ok = g.L.Layout.sound in
-    let whole = g.met.L.Layout.whole in
+pub returns-then-lt-clause-sig : goal.returns-then-lt-clause-sig
+returns-then-lt-clause-sig g c =
     let f = g.met.L.Layout.fields in
     let h = subst (λ x. g.L.Int.Int.nat c.args.ix < x) (ap g.L.Int.Int.nat c.IMPLICIT_BIT.ensures ∙ f.implicit_bit) (less_true g.L.Int.Int.nat _ g.met.L.Int.Int.cmps _ _ _ c.lt.ensures c.if-lt.true) in
-    let eb = c.EXP_BITS.ensures ∙ f.exp_bits in
-    let bb = c.EXP_BIAS.ensures ∙ f.exp_bias in
-    record {
-      sig = c.shl.ensures ∙ sig_small S ok _ c.requires.0 _ whole h _ _ _ c.leading_zeros.ensures eb bb;
-      exp = exp_small_is S ok _ c.requires.0 _ whole h _ _ _ c.leading_zeros.ensures eb bb;
-    }
+    c.shl.ensures ∙ sig_small g.L.Layout.shape g.L.Layout.sound _ c.requires.0 _ g.met.L.Layout.whole h _ _ _ c.leading_zeros.ensures (c.EXP_BITS.ensures ∙ f.exp_bits) (c.EXP_BIAS.ensures ∙ f.exp_bias)
 
 pub overflow_add-result-else-lt : goal.overflow_add-result-else-lt
 overflow_add-result-else-lt g c =

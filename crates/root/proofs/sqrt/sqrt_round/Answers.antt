@@ -5,8 +5,8 @@ use Rattle.root.proofs.Classes.{status_ok}
 use Rattle.root.proofs.Ported.{stored_normal, normal_lower, normal_upper}
 use Rattle.root.proofs.sqrt.sqrt_round.Goals as goal
 
-pub returns-else-special_case : goal.returns-else-special_case
-returns-else-special_case g c =
+pub returns-else-special_case-clause-root : goal.returns-else-special_case-clause-root
+returns-else-special_case-clause-root g c =
     let S = g.F.Layout.shape in
     let x = g.F.Int.Int.nat c.args.ix in
     let shr = c.shr.ensures in
@@ -14,4 +14,4 @@ returns-else-special_case g c =
     let n = sym (c.special_case.ensures shr.within) ∙ c.if-special_case.false in
     let l = leb-true _ _ (normal_lower (leb (2 ^ S.sig) x) (ltb x (infinity S)) n) in
     let h = ltb-true _ _ (normal_upper (leb (2 ^ S.sig) x) (ltb x (infinity S)) n) in
-    record { root = subst (λ y. RootBits S x (g.F.Int.Int.nat y)) (sym c.ok.ensures.val) (c.root_at.ensures x (stored_normal S g.F.Layout.sound x _ l h top)); status = c.ok.ensures.status ∙ sym (status_ok S x (le_of_lt h)) }
+    subst (λ y. RootBits S x (g.F.Int.Int.nat y)) (sym c.ok.ensures.val) (c.root_at.ensures x (stored_normal S g.F.Layout.sound x _ l h top))
