@@ -35,6 +35,7 @@ fn same_answer<P: RootUnit, Q: RootUnit>(first: &mut P, second: &mut Q, reading:
 /// Asks two units for the same roots in the same order, and says whether all their answers have
 /// the same bits. They always have, whatever the units; and each counts every reading once, so units
 /// that start with equal counts end with equal counts.
+#[tactic(auto, using(crate::proofs::Runs::one_run))]
 pub fn agree<P: RootUnit, Q: RootUnit>(first: &mut P, second: &mut Q, readings: &[Reading]) -> bool
     ensures roots { result ≡ true }
     ensures run { OneRun }

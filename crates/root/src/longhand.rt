@@ -102,6 +102,7 @@ fn normalized<L: Layout>(ix: L::Int) -> (L::Int, u32)
 
 // The significand at the top of a word, or one below it, such that the number is a power of 4
 // times the word.
+#[tactic(auto, using(crate::proofs::Normal::word_even, crate::proofs::Normal::word_odd))]
 fn word_of<L: Layout>(sig: L::Int, exp: u32) -> L::Int
     requires { L.Int.Int.nat sig < 2 * 2 ^ L.Layout.shape.sig }
     ensures { L.Int.Int.nat result ≡ word_of L.Layout.shape exp (L.Int.Int.nat sig) }

@@ -169,7 +169,10 @@ fn reduced_in_place<F: SqrtHelper>(ix: F::Int) -> (F::Int, F::Int)
     if even {
         (ix.shl(F::EXP_BITS).bitor(F::SIGN_MASK), e_noshift)
     } else {
-        (ix.shl(F::EXP_BITS - 1).bitand(F::SIGN_MASK.not()), e_noshift)
+        (
+            ix.shl(F::EXP_BITS - 1).bitand(F::SIGN_MASK.not()),
+            e_noshift,
+        )
     }
 }
 

@@ -1,6 +1,5 @@
-use Rattle.std.proofs.Common.{◌≡◌, ℕ, length, sym, refl, ap, ◌∙◌, add-one, arith}
+use Rattle.std.proofs.Common.{ℕ, sym, refl, ap, ◌∙◌, add-one}
 use Rattle.root.specs.Count.{raised, raised_by}
-use Rattle.root.proofs.Runs.{one_run}
 use Rattle.root.proofs.agree.agree.Goals as goal
 
 pub loop-reading-init : goal.loop-reading-init
@@ -15,6 +14,3 @@ loop-reading-preserved g c =
     let inv = c.loop-reading.invariant in
     let both = c.same_answer.ensures in
     (both.first ∙ ap raised inv.0 ∙ step _, both.second ∙ ap raised inv.1 ∙ step _)
-
-pub returns-clause-run : goal.returns-clause-run
-returns-clause-run g c = one_run

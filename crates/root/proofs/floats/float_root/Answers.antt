@@ -1,5 +1,4 @@
 use Rattle.std.proofs.Common.{sym, subst, subst₂}
-use lib.Ieee.{of_bits}
 use Rattle.width.specs.Pattern.{PatternOf}
 use Rattle.rootlaws.specs.Roots.{RootBits, NearestRoot}
 use Rattle.rootlaws.proofs.Floats.{bits_root}

@@ -1,6 +1,6 @@
-use Rattle.std.proofs.Common.{◌≡◌, ◌-◌, ◌*◌, ◌%◌, ◌^◌, cond, sym, refl, ap, ◌∙◌, subst, ap₂, arith}
+use Rattle.std.proofs.Common.{◌-◌, ◌*◌, ◌%◌, ◌^◌, cond, sym, refl, ap, ◌∙◌, subst, ap₂}
 use Rattle.std.proofs.lemmas.Nat.{pow_pos}
-use Rattle.rootlaws.specs.Gold.{Turn, doubles, begin, turns}
+use Rattle.rootlaws.specs.Gold.{Turn, doubles, begin}
 use Rattle.root.proofs.Turns.{Holds, quarters, turn_holds, turns_none, turns_more}
 use Rattle.root.proofs.goldschmidt.goldschmidt.Goals as goal
 

@@ -1,7 +1,6 @@
-use Rattle.std.proofs.Common.{◌≡◌, ◌-◌, ◌<◌, ◌≤◌, Bool, true, false, not, is_some, sym, ◌∙◌, subst, arith}
-use native.Mathlib.Nat.{zero-mod}
+use Rattle.std.proofs.Common.{◌≡◌, ◌-◌, ◌≤◌, false, is_some, ◌∙◌, subst, arith}
 use Rattle.rootlaws.specs.Longhand.{Held}
-use Rattle.root.proofs.Drawn.{quarter, Kept, kept_start, kept_next, place_taken, no_place, drawn_nearest}
+use Rattle.root.proofs.Drawn.{quarter, no_place, drawn_nearest}
 use Rattle.root.proofs.longhand.drawn_root.Goals as goal
 
 pub returns : goal.returns

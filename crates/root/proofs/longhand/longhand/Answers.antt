@@ -1,6 +1,5 @@
-use Rattle.std.proofs.Common.{◌<◌, ◌≤◌, sym, ap, ◌∙◌, ltb-false, ltb-true, eqb-true}
-use borrow.Author.Tests.{eqb-false}
-use Rattle.root.proofs.Classes.{zero_root, none_root}
+use Rattle.std.proofs.Common.{sym, ◌∙◌, eqb-true}
+use Rattle.root.proofs.Classes.{zero_root}
 use Rattle.root.proofs.longhand.longhand.Goals as goal
 
 pub returns-then-is_zero : goal.returns-then-is_zero

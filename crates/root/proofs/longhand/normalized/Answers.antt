@@ -1,7 +1,7 @@
 use Rattle.std.proofs.Common.{◌+◌, ◌/◌, ◌%◌, ◌^◌, ◌<◌, ◌≤◌, ap, ◌∙◌, subst, arith}
 use lib.Bits.{bit_or}
 use Rattle.width.proofs.Order.{less_true, less_false}
-use Rattle.root.proofs.Normal.{bias_small, zeros_enough, sig_small, exp_small_is, sig_large, field_small, exp_large_is}
+use Rattle.root.proofs.Normal.{bias_small, zeros_enough, sig_small, sig_large, field_small, exp_large_is}
 use Rattle.root.proofs.longhand.normalized.Goals as goal
 
 pub overflow_sub-n : goal.overflow_sub-n

@@ -11,7 +11,7 @@ returns-then-even-clause-word g c =
     let n = g.F.Int.Int.nat in
     let even = sym c.bitand.ensures ∙ true_same n _ g.met.F.Int.Int.eqs _ _ _ c.eq-even.ensures c.if-even.true ∙ c.from_u32.ensures ∙ zero-mod _ in
     c.bitor.ensures ∙ ap (λ y. bit_or y (n c.SIGN_MASK.result)) c.shl.ensures
-          ∙ word_even_place g.F.Layout.shape g.F.Layout.sound _ g.met.F.Layout.whole (n c.args.ix) _ _ _ even (ap n c.IMPLICIT_BIT.ensures ∙ f.implicit_bit) (ap n c.SIGN_MASK.ensures ∙ f.sign_mask) (c.EXP_BITS.ensures ∙ f.exp_bits)
+    ∙ word_even_place g.F.Layout.shape g.F.Layout.sound _ g.met.F.Layout.whole (n c.args.ix) _ _ _ even (ap n c.IMPLICIT_BIT.ensures ∙ f.implicit_bit) (ap n c.SIGN_MASK.ensures ∙ f.sign_mask) (c.EXP_BITS.ensures ∙ f.exp_bits)
 
 pub returns-else-even-clause-word : goal.returns-else-even-clause-word
 returns-else-even-clause-word g c =
@@ -20,4 +20,4 @@ returns-else-even-clause-word g c =
     let odd = false_other n _ g.met.F.Int.Int.eqs _ _ _ c.eq-even.ensures c.if-even.false in
     let rest = c.not.ensures ∙ ap (λ y. 2 ^ g.F.Int.Int.BITS - 1 - y) (ap n c.SIGN_MASK-else-even.ensures ∙ f.sign_mask) in
     c.bitand-else-even.ensures ∙ ap (λ y. bit_and y (n c.not.result)) c.shl-else-even.ensures
-          ∙ word_odd_place g.F.Layout.shape g.F.Layout.sound _ g.met.F.Layout.whole (n c.args.ix) _ _ _ (λ z. odd (c.bitand.ensures ∙ z ∙ sym (c.from_u32.ensures ∙ zero-mod _))) (ap n c.IMPLICIT_BIT.ensures ∙ f.implicit_bit) rest (c.EXP_BITS-else-even.ensures ∙ f.exp_bits)
+    ∙ word_odd_place g.F.Layout.shape g.F.Layout.sound _ g.met.F.Layout.whole (n c.args.ix) _ _ _ (λ z. odd (c.bitand.ensures ∙ z ∙ sym (c.from_u32.ensures ∙ zero-mod _))) (ap n c.IMPLICIT_BIT.ensures ∙ f.implicit_bit) rest (c.EXP_BITS-else-even.ensures ∙ f.exp_bits)

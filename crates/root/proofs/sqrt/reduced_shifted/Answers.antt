@@ -1,4 +1,4 @@
-use Rattle.std.proofs.Common.{◌+◌, ◌*◌, ◌/◌, ◌%◌, ◌^◌, ap, ◌∙◌, ap₂}
+use Rattle.std.proofs.Common.{◌*◌, ◌%◌, ◌^◌, ap, ◌∙◌}
 use Rattle.root.proofs.Ported.{word_even_shifted, word_odd_shifted}
 use Rattle.root.proofs.sqrt.reduced_shifted.Goals as goal
 

@@ -1,4 +1,4 @@
-use Rattle.std.proofs.Common.{sym, ap, ◌∙◌, subst, eqb-true}
+use Rattle.std.proofs.Common.{sym, ◌∙◌, subst, eqb-true}
 use Rattle.rootlaws.specs.Roots.{RootBits}
 use Rattle.root.proofs.Classes.{zero_root}
 use Rattle.root.proofs.sqrt.special_root.Goals as goal

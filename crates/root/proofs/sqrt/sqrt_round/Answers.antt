@@ -1,7 +1,6 @@
-use Rattle.std.proofs.Common.{◌/◌, ◌%◌, ◌^◌, ltb, leb, sym, ap, ◌∙◌, subst, le_of_lt, ltb-true, leb-true}
+use Rattle.std.proofs.Common.{◌/◌, ◌%◌, ◌^◌, ltb, leb, sym, ap, ◌∙◌, subst, ltb-true, leb-true}
 use Rattle.width.specs.Shape.{infinity}
 use Rattle.rootlaws.specs.Roots.{RootBits}
-use Rattle.root.proofs.Classes.{status_ok}
 use Rattle.root.proofs.Ported.{stored_normal, normal_lower, normal_upper}
 use Rattle.root.proofs.sqrt.sqrt_round.Goals as goal
 
