@@ -7,7 +7,7 @@ pub returns : goal.returns
 returns g c v p =
     let f = g.W.Width.fmt in
     let n = g.W.Int.Int.nat c.args.bits in
-    let w = c.fields.ensures.bits ∙ ap width g.met.W.Width.shaped in
+    let w = c.BITS.ensures ∙ g.met.W.Layout.fields.bits ∙ ap width g.met.W.Width.shaped in
     let i = c.low_u32-hx.ensures ∙ ap (λ x. x % 2 ^ 32) (c.shr.ensures.value ∙ ap (λ k. n / 2 ^ k) c.saturating_sub-below.ensures) in
     record {
       number = p.number;
