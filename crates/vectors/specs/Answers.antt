@@ -1,35 +1,42 @@
--- What a question's answer is, by patterns.
+-- What a question asks, and its answer, by patterns.
 use Rattle.std.specs.Prelude.{◌≡◌, ℕ, from_bits, to_bits}
-use Rattle.std.specs.Float.{binary32, binary64}
+use Rattle.std.specs.Float.{Format, binary32, binary64}
 use Rattle.width.specs.Shape.{shape_of}
 use Rattle.rootlaws.specs.Roots.{RootBits}
 use Rattle.anglelaws.specs.Arcs as Arcs
 use Rattle.anglelaws.specs.Atan as Atan
 use Rattle.anglelaws.specs.Atan2 as Atan2
+use Rattle.vectors.specs.declared.function.Function.{Function}
+use Rattle.vectors.specs.declared.function.Kind.{Kind}
+use Rattle.vectors.specs.declared.function.Kind.TheVariants as kinds
+use Rattle.vectors.specs.declared.function.Precision.TheVariants as precisions
+use Rattle.vectors.specs.declared.question.Call.{Call}
+use Rattle.vectors.specs.declared.question.Call.TheVariants.{Asin, Acos, Atan, Atan2, Sqrt}
 use Rattle.vectors.specs.declared.question.Question.{Question}
-use Rattle.vectors.specs.declared.question.Question.TheVariants.{Asin, Asinf, Acos, Acosf, Atan, Atanf, Atan2, Atan2f, Sqrt, Sqrtf}
+use Rattle.vectors.specs.declared.question.Question.TheVariants.{Double, Single}
+
+-- r is the answer of a call at one precision
+abbrev pub AnswersCall : Format → Call ℕ → ℕ → Type 0
+AnswersCall fmt (Asin x) r = r ≡ to_bits fmt (Arcs.asin fmt (from_bits fmt x))
+AnswersCall fmt (Acos x) r = r ≡ to_bits fmt (Arcs.acos fmt (from_bits fmt x))
+AnswersCall fmt (Atan x) r = r ≡ to_bits fmt (Atan.atan fmt (from_bits fmt x))
+AnswersCall fmt (Atan2 y x) r = r ≡ to_bits fmt (Atan2.atan2 fmt (from_bits fmt y) (from_bits fmt x))
+AnswersCall fmt (Sqrt x) r = RootBits (shape_of fmt) x r
 
 abbrev pub AnswerTo : Question → ℕ → Type 0
-AnswerTo (Asin x) r = r ≡ to_bits binary64 (Arcs.asin binary64 (from_bits binary64 x))
-AnswerTo (Asinf x) r = r ≡ to_bits binary32 (Arcs.asin binary32 (from_bits binary32 x))
-AnswerTo (Acos x) r = r ≡ to_bits binary64 (Arcs.acos binary64 (from_bits binary64 x))
-AnswerTo (Acosf x) r = r ≡ to_bits binary32 (Arcs.acos binary32 (from_bits binary32 x))
-AnswerTo (Atan x) r = r ≡ to_bits binary64 (Atan.atan binary64 (from_bits binary64 x))
-AnswerTo (Atanf x) r = r ≡ to_bits binary32 (Atan.atan binary32 (from_bits binary32 x))
-AnswerTo (Atan2 y x) r = r ≡ to_bits binary64 (Atan2.atan2 binary64 (from_bits binary64 y) (from_bits binary64 x))
-AnswerTo (Atan2f y x) r = r ≡ to_bits binary32 (Atan2.atan2 binary32 (from_bits binary32 y) (from_bits binary32 x))
-AnswerTo (Sqrt x) r = RootBits (shape_of binary64) x r
-AnswerTo (Sqrtf x) r = RootBits (shape_of binary32) x r
+AnswerTo (Double call) r = AnswersCall binary64 call r
+AnswerTo (Single call) r = AnswersCall binary32 call r
 
--- the position of its function in the list
-abbrev pub position_of : Question → ℕ
-position_of (Asin x) = 0
-position_of (Asinf x) = 1
-position_of (Acos x) = 2
-position_of (Acosf x) = 3
-position_of (Atan x) = 4
-position_of (Atanf x) = 5
-position_of (Atan2 y x) = 6
-position_of (Atan2f y x) = 7
-position_of (Sqrt x) = 8
-position_of (Sqrtf x) = 9
+module _ {I : Type 0} where
+  -- what a call computes
+  abbrev pub kind_of : Call I → Kind
+  kind_of (Asin _) = kinds.Asin
+  kind_of (Acos _) = kinds.Acos
+  kind_of (Atan _) = kinds.Atan
+  kind_of (Atan2 _ _) = kinds.Atan2
+  kind_of (Sqrt _) = kinds.Sqrt
+
+-- the function that a question calls
+abbrev pub function_of : Question → Function
+function_of (Double call) = record { kind = kind_of call; precision = precisions.Double }
+function_of (Single call) = record { kind = kind_of call; precision = precisions.Single }

@@ -1,90 +1,130 @@
 // Replays a list of libm's answers: asks our functions the same, and counts what differs.
 #![tactic(auto)]
 
+ghost use Rattle.std.specs.Prelude.{◌≡◌, ◌≢◌, IfSome, OnOk, Some, unwrap_or};
+ghost use Rattle.std.specs.BTreeMap.{get};
+ghost use Rattle.vectors.specs.Answers.{kind_of, function_of};
+ghost use Rattle.vectors.specs.Tallies.{noted, nothing};
+
+mod function;
 mod question;
 
 use angle::known::known_answers;
-use anyhow::anyhow;
-use question::Question;
+use anyhow::ensure;
+use function::{Function, Kind, Precision};
+use question::{Call, Question};
+use std::alloc::{AllocError, Global};
+use std::collections::BTreeMap;
+use std::fmt;
 use std::io::{BufRead, BufReader};
-
-const NAMES: [&str; 10] = [
-    "asin", "asinf", "acos", "acosf", "atan", "atanf", "atan2", "atan2f", "sqrt", "sqrtf",
-];
+use std::str::SplitWhitespace;
 
 /// How many answers of a function were compared, and how many of them differ.
-#[derive(Clone, Copy)]
+#[derive(Clone, Copy, Default)]
 struct Tally {
     compared: u32,
     differ: u32,
 }
 
 impl Tally {
-    fn note(&mut self, same: bool) {
-        let Tally { compared, differ } = self;
-        *compared = compared.saturating_add(1);
+    fn note(&mut self, same: bool)
+        ensures { self.new ≡ noted self.old same }
+    {
+        self.compared = self.compared.saturating_add(1);
         if !same {
-            *differ = differ.saturating_add(1);
+            self.differ = self.differ.saturating_add(1);
         }
     }
 }
 
-fn wide(word: &str) -> Option<u64> {
-    u64::from_str_radix(word, 16).ok()
+impl fmt::Display for Tally {
+    fn fmt<W: fmt::Write>(&self, f: &mut fmt::Formatter<W>) -> fmt::Result {
+        write!(f, "{} compared, {} differ", self.compared, self.differ)
+    }
 }
 
-fn narrow(word: &str) -> Option<u32> {
-    u32::from_str_radix(word, 16).ok()
+// The next word as a pattern, in hexadecimal.
+fn read_pattern<I: TryFrom<u64>>(words: &mut SplitWhitespace<'_>) -> Option<I>
+where
+    I::Error: Drop,
+{
+    let n = u64::from_str_radix(words.next()?, 16).ok()?;
+    I::try_from(n).ok()
 }
 
-// A question of one reading.
-fn one(name: &str, x: &str) -> Option<Question> {
-    Some(match name {
-        "asin" => Question::Asin(wide(x)?),
-        "asinf" => Question::Asinf(narrow(x)?),
-        "acos" => Question::Acos(wide(x)?),
-        "acosf" => Question::Acosf(narrow(x)?),
-        "atan" => Question::Atan(wide(x)?),
-        "atanf" => Question::Atanf(narrow(x)?),
-        "sqrt" => Question::Sqrt(wide(x)?),
-        "sqrtf" => Question::Sqrtf(narrow(x)?),
-        _ => return None,
+fn read_call<I: TryFrom<u64> + Drop>(kind: Kind, words: &mut SplitWhitespace<'_>) -> Option<Call<I>>
+where
+    I::Error: Drop,
+    ensures { IfSome result (λ call. kind_of call ≡ kind) }
+{
+    Some(match kind {
+        Kind::Asin => Call::Asin(read_pattern(words)?),
+        Kind::Acos => Call::Acos(read_pattern(words)?),
+        Kind::Atan => Call::Atan(read_pattern(words)?),
+        Kind::Atan2 => Call::Atan2(read_pattern(words)?, read_pattern(words)?),
+        Kind::Sqrt => Call::Sqrt(read_pattern(words)?),
     })
 }
 
-// A question of two readings.
-fn two(name: &str, y: &str, x: &str) -> Option<Question> {
-    Some(match name {
-        "atan2" => Question::Atan2(wide(y)?, wide(x)?),
-        "atan2f" => Question::Atan2f(narrow(y)?, narrow(x)?),
-        _ => return None,
+fn read_question(function: Function, words: &mut SplitWhitespace<'_>) -> Option<Question>
+    ensures { IfSome result (λ question. function_of question ≡ function) }
+{
+    Some(match function.precision {
+        Precision::Double => Question::Double(read_call(function.kind, words)?),
+        Precision::Single => Question::Single(read_call(function.kind, words)?),
     })
 }
 
 // The question and libm's answer of a line: a name, one or two readings, the answer.
-fn line_of(line: &str) -> Option<(Question, u64)> {
+fn read_line(line: &str) -> Option<(Question, u64)> {
     let mut words = line.split_whitespace();
-    let name = words.next()?;
-    let first = words.next()?;
-    let second = words.next()?;
-    let Some(third) = words.next() else {
-        return Some((one(name, first)?, wide(second)?));
-    };
+    let function = words.next()?.parse::<Function>().ok()?;
+    let question = read_question(function, &mut words)?;
+    let answer = read_pattern(&mut words)?;
     match words.next() {
-        None => Some((two(name, first, second)?, wide(third)?)),
+        None => Some((question, answer)),
         Some(_) => None,
     }
 }
 
-// Asks the question of a line, and says whether it could be read.
-fn replay(line: &str, tallies: &mut [Tally]) -> bool {
-    let Some((question, answer)) = line_of(line) else {
-        return false;
-    };
-    if let Some(tally) = tallies.get_mut(question.position()) {
-        tally.note(question.answer() == answer);
+/// The tally of each function, and how many lines could not be read.
+#[derive(Drop)]
+struct Report {
+    tallies: BTreeMap<Function, Tally>,
+    unread: u32,
+}
+
+impl Report {
+    fn new(alloc: Global) -> Result<Self, AllocError> {
+        let mut tallies = BTreeMap::new(alloc);
+        for kind in Kind::ALL {
+            for precision in Precision::ALL {
+                tallies.insert(Function { kind, precision }, Tally::default())?;
+            }
+        }
+        Ok(Report { tallies, unread: 0 })
     }
-    true
+
+    fn note(&mut self, function: Function, same: bool) -> Result<(), AllocError>
+        ensures own { OnOk result (get ⟦<Function as Ord>⟧.cmp self.new.tallies function
+            ≡ Some (noted (unwrap_or (get ⟦<Function as Ord>⟧.cmp self.old.tallies function) nothing) same)) }
+        ensures others { OnOk result ((other : Function) → other ≢ function
+            → get ⟦<Function as Ord>⟧.cmp self.new.tallies other ≡ get ⟦<Function as Ord>⟧.cmp self.old.tallies other) }
+    {
+        self.tallies.entry(function)?.or_default().note(same);
+        Ok(())
+    }
+
+    // Asks the question of a line, if the line can be read.
+    fn replay(&mut self, line: &str) -> Result<(), AllocError> {
+        match read_line(line) {
+            Some((question, answer)) => {
+                self.note(question.function(), question.answer() == answer)?
+            }
+            None => self.unread = self.unread.saturating_add(1),
+        }
+        Ok(())
+    }
 }
 
 fn main(rt: HostRuntime) -> anyhow::Result<()> {
@@ -92,27 +132,17 @@ fn main(rt: HostRuntime) -> anyhow::Result<()> {
 }
 
 fn run(rt: &HostRuntime) -> anyhow::Result<()> {
-    if !known_answers() {
-        return Err(anyhow!(
-            "known answers do not come: this program was not built as it is written"
-        ));
-    }
-    let mut tallies = [Tally {
-        compared: 0,
-        differ: 0,
-    }; 10];
-    let mut unread: u32 = 0;
+    ensure!(
+        known_answers(),
+        "known answers do not come: this program was not built as it is written"
+    );
+    let mut report = Report::new(rt.alloc())?;
     for line in BufReader::new(rt.alloc(), rt.stdin())?.lines(rt.alloc()) {
-        if !replay(line?.as_str(), &mut tallies) {
-            unread = unread.saturating_add(1);
-        }
+        report.replay(line?.as_str())?;
     }
-    for (name, tally) in NAMES.iter().zip(tallies.iter()) {
-        println!(rt;
-            "{name}: {} compared, {} differ",
-            tally.compared, tally.differ
-        )?;
+    for (function, tally) in &report.tallies {
+        println!(rt; "{function}: {tally}")?;
     }
-    println!(rt; "lines not read: {unread}")?;
+    println!(rt; "lines not read: {}", report.unread)?;
     Ok(())
 }

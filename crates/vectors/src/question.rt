@@ -1,24 +1,65 @@
 // A call of one of the ten functions, with its readings as patterns.
-ghost use Rattle.std.specs.Prelude.{◌≡◌, ◌<◌};
-ghost use Rattle.vectors.specs.Answers.{AnswerTo, position_of};
+ghost use Rattle.std.specs.Prelude.{◌≡◌};
+ghost use Rattle.std.specs.Float.{binary32, binary64};
+ghost use Rattle.vectors.specs.Answers.{AnswersCall, AnswerTo, kind_of, function_of};
 
-use exports::{
-    jamcurfew_acos, jamcurfew_acosf, jamcurfew_asin, jamcurfew_asinf, jamcurfew_atan,
-    jamcurfew_atan2, jamcurfew_atan2f, jamcurfew_atanf, jamcurfew_sqrt, jamcurfew_sqrtf,
-};
+use crate::function::{Function, Kind, Precision};
+
+/// A call at the precision whose patterns are of the type `I`.
+#[derive(Clone, Copy)]
+pub enum Call<I> {
+    Asin(I),
+    Acos(I),
+    Atan(I),
+    Atan2(I, I),
+    Sqrt(I),
+}
+
+impl<I> Call<I> {
+    fn kind(&self) -> Kind
+        ensures { result ≡ kind_of self.now }
+    {
+        match self {
+            Call::Asin(_) => Kind::Asin,
+            Call::Acos(_) => Kind::Acos,
+            Call::Atan(_) => Kind::Atan,
+            Call::Atan2(_, _) => Kind::Atan2,
+            Call::Sqrt(_) => Kind::Sqrt,
+        }
+    }
+}
+
+// Two blocks, since `exports` has a function of its own for each width.
+impl Call<u64> {
+    fn answer(self) -> u64
+    ensures { AnswersCall binary64 self result }
+{
+    match self {
+        Call::Asin(x) => exports::jamcurfew_asin(x),
+        Call::Acos(x) => exports::jamcurfew_acos(x),
+        Call::Atan(x) => exports::jamcurfew_atan(x),
+        Call::Atan2(y, x) => exports::jamcurfew_atan2(y, x),
+        Call::Sqrt(x) => exports::jamcurfew_sqrt(x),
+    }
+}}
+
+impl Call<u32> {
+    fn answer(self) -> u32
+    ensures { AnswersCall binary32 self result }
+{
+    match self {
+        Call::Asin(x) => exports::jamcurfew_asinf(x),
+        Call::Acos(x) => exports::jamcurfew_acosf(x),
+        Call::Atan(x) => exports::jamcurfew_atanf(x),
+        Call::Atan2(y, x) => exports::jamcurfew_atan2f(y, x),
+        Call::Sqrt(x) => exports::jamcurfew_sqrtf(x),
+    }
+}}
 
 #[derive(Clone, Copy)]
 pub enum Question {
-    Asin(u64),
-    Asinf(u32),
-    Acos(u64),
-    Acosf(u32),
-    Atan(u64),
-    Atanf(u32),
-    Atan2(u64, u64),
-    Atan2f(u32, u32),
-    Sqrt(u64),
-    Sqrtf(u32),
+    Double(Call<u64>),
+    Single(Call<u32>),
 }
 
 impl Question {
@@ -27,35 +68,24 @@ impl Question {
         ensures { AnswerTo self result }
     {
         match self {
-            Question::Asin(x) => jamcurfew_asin(x),
-            Question::Asinf(x) => jamcurfew_asinf(x) as u64,
-            Question::Acos(x) => jamcurfew_acos(x),
-            Question::Acosf(x) => jamcurfew_acosf(x) as u64,
-            Question::Atan(x) => jamcurfew_atan(x),
-            Question::Atanf(x) => jamcurfew_atanf(x) as u64,
-            Question::Atan2(y, x) => jamcurfew_atan2(y, x),
-            Question::Atan2f(y, x) => jamcurfew_atan2f(y, x) as u64,
-            Question::Sqrt(x) => jamcurfew_sqrt(x),
-            Question::Sqrtf(x) => jamcurfew_sqrtf(x) as u64,
+            Question::Double(call) => call.answer(),
+            Question::Single(call) => u64::from(call.answer()),
         }
     }
 
-    /// The position of its function in the list of the ten.
-    pub fn position(self) -> usize
-        ensures value { result ≡ position_of self }
-        ensures few { result < 10 }
+    /// The function that it calls.
+    pub fn function(self) -> Function
+        ensures { result ≡ function_of self }
     {
         match self {
-            Question::Asin(_) => 0,
-            Question::Asinf(_) => 1,
-            Question::Acos(_) => 2,
-            Question::Acosf(_) => 3,
-            Question::Atan(_) => 4,
-            Question::Atanf(_) => 5,
-            Question::Atan2(_, _) => 6,
-            Question::Atan2f(_, _) => 7,
-            Question::Sqrt(_) => 8,
-            Question::Sqrtf(_) => 9,
+            Question::Double(call) => Function {
+                kind: call.kind(),
+                precision: Precision::Double,
+            },
+            Question::Single(call) => Function {
+                kind: call.kind(),
+                precision: Precision::Single,
+            },
         }
     }
 }

@@ -1,0 +1,112 @@
+// The ten functions, by name.
+ghost use Rattle.std.specs.Prelude.{◌≡◌, Some};
+ghost use Rattle.vectors.specs.Names.{stem_of, suffix_of, name_of, NamesKind, NamesFunction};
+
+use std::fmt;
+use std::str::FromStr;
+
+/// A name that is none of the ten.
+#[derive(Drop)]
+pub struct UnknownFunction;
+
+#[derive(Clone, Copy, PartialEq, Eq, PartialOrd, Ord)]
+pub enum Kind {
+    Asin,
+    Acos,
+    Atan,
+    Atan2,
+    Sqrt,
+}
+
+impl Kind {
+    pub const ALL: [Kind; 5] = [
+        Kind::Asin,
+        Kind::Acos,
+        Kind::Atan,
+        Kind::Atan2,
+        Kind::Sqrt,
+    ];
+
+    /// Its name at double precision.
+    fn stem(self) -> &'static str
+        ensures { result.now ≡ stem_of self }
+    {
+        match self {
+            Kind::Asin => "asin",
+            Kind::Acos => "acos",
+            Kind::Atan => "atan",
+            Kind::Atan2 => "atan2",
+            Kind::Sqrt => "sqrt",
+        }
+    }
+}
+
+impl FromStr for Kind {
+    type Err = UnknownFunction;
+
+    ghost from_str_gives = { NamesKind };
+
+    fn from_str(stem: &str) -> Result<Self, UnknownFunction> {
+        // A `find` by `stem` would write each name once, but leaves a goal that needs a long proof.
+        match stem {
+            "asin" => Ok(Kind::Asin),
+            "acos" => Ok(Kind::Acos),
+            "atan" => Ok(Kind::Atan),
+            "atan2" => Ok(Kind::Atan2),
+            "sqrt" => Ok(Kind::Sqrt),
+            _ => Err(UnknownFunction),
+        }
+    }
+}
+
+#[derive(Clone, Copy, PartialEq, Eq, PartialOrd, Ord)]
+pub enum Precision {
+    Double,
+    Single,
+}
+
+impl Precision {
+    pub const ALL: [Precision; 2] = [Precision::Double, Precision::Single];
+
+    /// What it adds to a name.
+    fn suffix(self) -> &'static str
+        ensures { result.now ≡ suffix_of self }
+    {
+        match self {
+            Precision::Double => "",
+            Precision::Single => "f",
+        }
+    }
+}
+
+/// One of the ten functions. Their order is that of the report.
+#[derive(Clone, Copy, PartialEq, Eq, PartialOrd, Ord)]
+pub struct Function {
+    pub kind: Kind,
+    pub precision: Precision,
+}
+
+impl fmt::Display for Function {
+    ghost output = { λ f. Some (name_of f) };
+
+    fn fmt<W: fmt::Write>(&self, f: &mut fmt::Formatter<W>) -> fmt::Result {
+        f.write_str(self.kind.stem())?;
+        f.write_str(self.precision.suffix())
+    }
+}
+
+impl FromStr for Function {
+    type Err = UnknownFunction;
+
+    ghost from_str_gives = { NamesFunction };
+
+    #[tactic(auto, using(crate::proofs::Names::unknown_stem))]
+    fn from_str(name: &str) -> Result<Self, UnknownFunction> {
+        let (stem, precision) = match name.strip_suffix("f") {
+            Some(stem) => (stem, Precision::Single),
+            None => (name, Precision::Double),
+        };
+        let kind = stem.parse()?;
+        Ok(Function { kind, precision })
+    }
+}
