@@ -23,6 +23,7 @@ AnswersCall fmt (Atan x) r = r ≡ to_bits fmt (Atan.atan fmt (from_bits fmt x))
 AnswersCall fmt (Atan2 y x) r = r ≡ to_bits fmt (Atan2.atan2 fmt (from_bits fmt y) (from_bits fmt x))
 AnswersCall fmt (Sqrt x) r = RootBits (shape_of fmt) x r
 
+-- r is the answer to a question
 abbrev pub AnswerTo : Question → ℕ → Type 0
 AnswerTo (Double call) r = AnswersCall binary64 call r
 AnswerTo (Single call) r = AnswersCall binary32 call r

@@ -19,13 +19,7 @@ pub enum Kind {
 }
 
 impl Kind {
-    pub const ALL: [Kind; 5] = [
-        Kind::Asin,
-        Kind::Acos,
-        Kind::Atan,
-        Kind::Atan2,
-        Kind::Sqrt,
-    ];
+    pub const ALL: [Kind; 5] = [Kind::Asin, Kind::Acos, Kind::Atan, Kind::Atan2, Kind::Sqrt];
 
     /// Its name at double precision.
     fn stem(self) -> &'static str

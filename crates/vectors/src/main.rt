@@ -1,10 +1,10 @@
 // Replays a list of libm's answers: asks our functions the same, and counts what differs.
 #![tactic(auto)]
 
-ghost use Rattle.std.specs.Prelude.{◌≡◌, ◌≢◌, IfSome, OnOk, Some, unwrap_or};
+ghost use Rattle.std.specs.Prelude.{◌≡◌, IfSome, OnOk};
 ghost use Rattle.std.specs.BTreeMap.{get};
 ghost use Rattle.vectors.specs.Answers.{kind_of, function_of};
-ghost use Rattle.vectors.specs.Tallies.{noted, nothing};
+ghost use Rattle.vectors.specs.Tallies.{noted, NotesOnly};
 
 mod function;
 mod question;
@@ -19,7 +19,8 @@ use std::fmt;
 use std::io::{BufRead, BufReader};
 use std::str::SplitWhitespace;
 
-/// How many answers of a function were compared, and how many of them differ.
+/// How many answers of a function were compared, and how many of them differ. The counts saturate,
+/// as that of the lines that are not read.
 #[derive(Clone, Copy, Default)]
 struct Tally {
     compared: u32,
@@ -106,10 +107,9 @@ impl Report {
     }
 
     fn note(&mut self, function: Function, same: bool) -> Result<(), AllocError>
-        ensures own { OnOk result (get ⟦<Function as Ord>⟧.cmp self.new.tallies function
-            ≡ Some (noted (unwrap_or (get ⟦<Function as Ord>⟧.cmp self.old.tallies function) nothing) same)) }
-        ensures others { OnOk result ((other : Function) → other ≢ function
-            → get ⟦<Function as Ord>⟧.cmp self.new.tallies other ≡ get ⟦<Function as Ord>⟧.cmp self.old.tallies other) }
+        ensures { OnOk result (NotesOnly
+            (get ⟦<Function as Ord>⟧.cmp self.old.tallies)
+            (get ⟦<Function as Ord>⟧.cmp self.new.tallies) function same) }
     {
         self.tallies.entry(function)?.or_default().note(same);
         Ok(())

@@ -32,29 +32,31 @@ impl<I> Call<I> {
 // Two blocks, since `exports` has a function of its own for each width.
 impl Call<u64> {
     fn answer(self) -> u64
-    ensures { AnswersCall binary64 self result }
-{
-    match self {
-        Call::Asin(x) => exports::jamcurfew_asin(x),
-        Call::Acos(x) => exports::jamcurfew_acos(x),
-        Call::Atan(x) => exports::jamcurfew_atan(x),
-        Call::Atan2(y, x) => exports::jamcurfew_atan2(y, x),
-        Call::Sqrt(x) => exports::jamcurfew_sqrt(x),
+        ensures { AnswersCall binary64 self result }
+    {
+        match self {
+            Call::Asin(x) => exports::jamcurfew_asin(x),
+            Call::Acos(x) => exports::jamcurfew_acos(x),
+            Call::Atan(x) => exports::jamcurfew_atan(x),
+            Call::Atan2(y, x) => exports::jamcurfew_atan2(y, x),
+            Call::Sqrt(x) => exports::jamcurfew_sqrt(x),
+        }
     }
-}}
+}
 
 impl Call<u32> {
     fn answer(self) -> u32
-    ensures { AnswersCall binary32 self result }
-{
-    match self {
-        Call::Asin(x) => exports::jamcurfew_asinf(x),
-        Call::Acos(x) => exports::jamcurfew_acosf(x),
-        Call::Atan(x) => exports::jamcurfew_atanf(x),
-        Call::Atan2(y, x) => exports::jamcurfew_atan2f(y, x),
-        Call::Sqrt(x) => exports::jamcurfew_sqrtf(x),
+        ensures { AnswersCall binary32 self result }
+    {
+        match self {
+            Call::Asin(x) => exports::jamcurfew_asinf(x),
+            Call::Acos(x) => exports::jamcurfew_acosf(x),
+            Call::Atan(x) => exports::jamcurfew_atanf(x),
+            Call::Atan2(y, x) => exports::jamcurfew_atan2f(y, x),
+            Call::Sqrt(x) => exports::jamcurfew_sqrtf(x),
+        }
     }
-}}
+}
 
 #[derive(Clone, Copy)]
 pub enum Question {
