@@ -1,11 +1,12 @@
 // Arccosine (f64).
 ghost use Rattle.std.specs.Prelude.{◌≡◌};
 ghost use Rattle.std.specs.Float.{binary64};
+ghost use Rattle.std.proofs.Common.{rules};
 ghost use Rattle.anglelaws.specs.AnnexF.{AcosValues};
 ghost use Rattle.anglelaws.specs.Arcs as Arcs;
 
-use crate::generic::acos::{ArcHelper, QuarterTurn, acos_by};
-use root::unit::{Ported, RootUnit};
+use crate::generic;
+use crate::generic::acos::{ArcHelper, QuarterTurn};
 use width::Width;
 
 const PS0: f64 = 1.66666666666666657415e-01; /* 0x3FC55555, 0x55555555 */
@@ -35,9 +36,13 @@ impl ArcHelper for f64 {
         tiny: 0x3c60_0000,
     };
 
-    fn quarter_turn() -> QuarterTurn<f64> {
-        Self::PIO2
-    }
+    ghost PIO2 = { record { pio2_hi = Arcs.pio2_hi binary64; pio2_lo = Arcs.pio2_lo binary64; tiny = Arcs.tiny binary64 } };
+
+    ghost pio2_hi = { Prim.search rules };
+
+    ghost pio2_lo = { Prim.search rules };
+
+    ghost tiny = { Prim.search rules };
 
     fn r(self) -> f64 {
         let z = self;
@@ -53,10 +58,6 @@ impl ArcHelper for f64 {
         // The low 4 bytes are set to zero.
         f64::from_bits(self.to_bits() >> 32 << 32)
     }
-
-    fn root_from<U: RootUnit>(unit: &mut U, z: f64) -> f64 {
-        unit.wide_root(z)
-    }
 }
 
 /// Arccosine of `x`, in radians, from 0 to pi.
@@ -64,5 +65,5 @@ pub fn acos(x: f64) -> f64
     ensures value { result ≡ Arcs.acos binary64 x }
     ensures special { AcosValues binary64 x result }
 {
-    acos_by(&mut Ported::new(), x)
+    generic::acos::acos(x)
 }

@@ -1,11 +1,12 @@
 // Arccosine (f32).
 ghost use Rattle.std.specs.Prelude.{◌≡◌};
 ghost use Rattle.std.specs.Float.{binary32};
+ghost use Rattle.std.proofs.Common.{rules};
 ghost use Rattle.anglelaws.specs.AnnexF.{AcosValues};
 ghost use Rattle.anglelaws.specs.Arcs as Arcs;
 
-use crate::generic::acos::{ArcHelper, QuarterTurn, acos_by};
-use root::unit::{Ported, RootUnit};
+use crate::generic;
+use crate::generic::acos::{ArcHelper, QuarterTurn};
 use width::Width;
 
 const P_S0: f32 = 1.6666586697e-01;
@@ -23,9 +24,13 @@ impl ArcHelper for f32 {
         tiny: 0x3280_0000,
     };
 
-    fn quarter_turn() -> QuarterTurn<f32> {
-        Self::PIO2
-    }
+    ghost PIO2 = { record { pio2_hi = Arcs.pio2_hi binary32; pio2_lo = Arcs.pio2_lo binary32; tiny = Arcs.tiny binary32 } };
+
+    ghost pio2_hi = { Prim.search rules };
+
+    ghost pio2_lo = { Prim.search rules };
+
+    ghost tiny = { Prim.search rules };
 
     fn r(self) -> f32 {
         let z = self;
@@ -41,10 +46,6 @@ impl ArcHelper for f32 {
         // The low 12 bits are set to zero.
         f32::from_bits(self.to_bits() >> 12 << 12)
     }
-
-    fn root_from<U: RootUnit>(unit: &mut U, z: f32) -> f32 {
-        unit.narrow_root(z)
-    }
 }
 
 /// Arccosine of `x`, in radians, from 0 to pi.
@@ -52,5 +53,5 @@ pub fn acosf(x: f32) -> f32
     ensures value { result ≡ Arcs.acos binary32 x }
     ensures special { AcosValues binary32 x result }
 {
-    acos_by(&mut Ported::new(), x)
+    generic::acos::acos(x)
 }

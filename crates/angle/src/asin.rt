@@ -1,21 +1,23 @@
 // Arcsine (f64).
-ghost use Rattle.std.specs.Prelude.{◌≡◌, ◌&&◌, if◌then◌else◌};
-ghost use Rattle.std.specs.Float.{sqrt as root_of, binary64};
+ghost use Rattle.std.specs.Prelude.{◌≡◌, if◌then◌else◌};
+ghost use Rattle.std.specs.Float.{binary64};
 ghost use Rattle.root.specs.Count.{raised};
 ghost use Rattle.anglelaws.specs.AnnexF.{AsinValues};
 ghost use Rattle.anglelaws.specs.Arcs as Arcs;
-ghost use Rattle.anglelaws.specs.Words.{top_word};
 
+use crate::generic;
 use crate::generic::acos::{ArcHelper, QuarterTurn, low_part, outside, root};
+use crate::generic::asin::AsinHelper;
 use crate::numbers::Numerals;
 use crate::sign::{Fabs, signed};
-use crate::words::{Words, read};
-use root::unit::{Ported, RootUnit};
+use crate::words::{Number, read};
+use root::unit::RootUnit;
 
 // |x| < 0.5
-fn small(ix: u32, x: f64) -> f64
-    ensures { ix ≡ top_word binary64 x → result ≡ Arcs.asin_small binary64 x }
+fn small(x: Number<f64>) -> f64
+    ensures { result ≡ Arcs.asin_small binary64 x.value }
 {
+    let Number { value: x, ix, .. } = x;
     /* if 0x1p-1022 <= |x| < 0x1p-26, avoid raising underflow */
     if 0x0010_0000 <= ix && ix < 0x3e50_0000 {
         x
@@ -28,12 +30,7 @@ fn small(ix: u32, x: f64) -> f64
 fn near_one(z: f64, s: f64) -> f64
     ensures { result ≡ Arcs.asin_near_one z s }
 {
-    let QuarterTurn {
-        pio2_hi,
-        pio2_lo,
-        ..
-    } = f64::quarter_turn();
-    pio2_hi - (2. * (s + s * z.r()) - pio2_lo)
+    f64::PIO2.pio2_hi - (2. * (s + s * z.r()) - f64::PIO2.pio2_lo)
 }
 
 // The same below 0.975, where the root is taken in two parts.
@@ -44,7 +41,7 @@ fn split(z: f64, s: f64) -> f64
         pio2_hi,
         pio2_lo,
         ..
-    } = f64::quarter_turn();
+    } = f64::PIO2;
     /* f+c = sqrt(z) */
     let f = s.high_part();
     let c = low_part(z, s, f);
@@ -52,16 +49,45 @@ fn split(z: f64, s: f64) -> f64
 }
 
 // 1 > |x| >= 0.5
-fn large<U: RootUnit>(unit: &mut U, ix: u32, x: f64) -> f64
-    ensures value { ix ≡ top_word binary64 x → result ≡ Arcs.asin_large binary64 x }
+fn large<U: RootUnit>(unit: &mut U, x: Number<f64>) -> f64
+    ensures value { result ≡ Arcs.asin_large binary64 x.value }
     ensures counted { U.RootUnit.count unit.new ≡ raised (U.RootUnit.count unit.old) }
 {
-    let z = (1.0 - x.fabs()) * 0.5;
+    let z = (1.0 - x.value.fabs()) * 0.5;
     let s = root(unit, z);
-    if ix >= 0x3fef_3333 {
+    if x.ix >= 0x3fef_3333 {
         near_one(z, s)
     } else {
         split(z, s)
+    }
+}
+
+// The arcsine of what is no NaN.
+fn of_number<U: RootUnit>(unit: &mut U, x: Number<f64>) -> f64
+    ensures value { result ≡ Arcs.asin binary64 x.value }
+    ensures counted { U.RootUnit.count unit.new ≡ (if Arcs.asks binary64 x.value then raised (U.RootUnit.count unit.old) else U.RootUnit.count unit.old) }
+{
+    /* |x| >= 1 */
+    if x.ix >= 0x3ff0_0000 {
+        if x.size_is(0x3ff0_0000) {
+            /* asin(1) = +-pi/2 */
+            return x.value * f64::PIO2.pio2_hi;
+        }
+        return outside(x.value);
+    }
+    if x.ix < 0x3fe0_0000 {
+        return small(x);
+    }
+    signed(x.negative, large(unit, x))
+}
+
+impl AsinHelper for f64 {
+    #[tactic(auto, using(anglelaws::proofs::AnnexF::asin_special))]
+    fn asin_by<U: RootUnit>(unit: &mut U, x: f64) -> f64 {
+        match read(x) {
+            None => x,
+            Some(x) => of_number(unit, x),
+        }
     }
 }
 
@@ -69,23 +95,10 @@ fn large<U: RootUnit>(unit: &mut U, ix: u32, x: f64) -> f64
 /// once for a size from one half up to, not including, 1, and else not.
 pub fn asin_by<U: RootUnit>(unit: &mut U, x: f64) -> f64
     ensures value { result ≡ Arcs.asin binary64 x }
+    ensures special { AsinValues binary64 x result }
     ensures counted { U.RootUnit.count unit.new ≡ (if Arcs.asks binary64 x then raised (U.RootUnit.count unit.old) else U.RootUnit.count unit.old) }
 {
-    let Some(words) = read(x) else {
-        return x;
-    };
-    /* |x| >= 1 */
-    if words.ix >= 0x3ff0_0000 {
-        if words.size_is(0x3ff0_0000) {
-            /* asin(1) = +-pi/2 */
-            return x * f64::quarter_turn().pio2_hi;
-        }
-        return outside(x);
-    }
-    if words.ix < 0x3fe0_0000 {
-        return small(words.ix, x);
-    }
-    signed(words.negative, large(unit, words.ix, x))
+    generic::asin::asin_by(unit, x)
 }
 
 /// Arcsine of `x`, in radians, from -pi/2 to pi/2.
@@ -93,5 +106,5 @@ pub fn asin(x: f64) -> f64
     ensures value { result ≡ Arcs.asin binary64 x }
     ensures special { AsinValues binary64 x result }
 {
-    asin_by(&mut Ported::new(), x)
+    generic::asin::asin(x)
 }

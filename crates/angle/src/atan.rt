@@ -1,10 +1,12 @@
 // Arctangent (f64).
 ghost use Rattle.std.specs.Prelude.{◌≡◌};
 ghost use Rattle.std.specs.Float.{binary64};
+ghost use Rattle.std.proofs.Common.{rules};
 ghost use Rattle.anglelaws.specs.AnnexF.{AtanValues};
 ghost use Rattle.anglelaws.specs.Atan as Atan;
 
-use crate::generic::atan::{AtanHelper, Centre, Cuts, atan as generic_atan};
+use crate::generic;
+use crate::generic::atan::{AtanHelper, Centre, Cuts};
 
 const ATANHI: [f64; 4] = [
     4.63647609000806093515e-01, /* atan(0.5)hi 0x3FDDAC67, 0x0561BB4F */
@@ -35,16 +37,18 @@ const AT: [f64; 11] = [
 ];
 
 impl AtanHelper for f64 {
-    fn cuts() -> Cuts {
-        Cuts {
-            tiny: 0x3e40_0000,
-            straight: 0x3fdc_0000,
-            about_half: 0x3fe6_0000,
-            about_one: 0x3ff3_0000,
-            about_three_halves: 0x4003_8000,
-            large: 0x4410_0000,
-        }
-    }
+    const CUTS: Cuts = Cuts {
+        tiny: 0x3e40_0000,
+        straight: 0x3fdc_0000,
+        about_half: 0x3fe6_0000,
+        about_one: 0x3ff3_0000,
+        about_three_halves: 0x4003_8000,
+        large: 0x4410_0000,
+    };
+
+    ghost CUTS = { record { tiny = Atan.tiny binary64; straight = Atan.straight binary64; about_half = Atan.about_half binary64; about_one = Atan.about_one binary64; about_three_halves = Atan.about_three_halves binary64; large = Atan.large binary64 } };
+
+    ghost cuts = { Prim.search rules };
 
     fn atan_hi(centre: Centre) -> f64 {
         ATANHI[centre as usize]
@@ -69,5 +73,5 @@ pub fn atan(x: f64) -> f64
     ensures value { result ≡ Atan.atan binary64 x }
     ensures special { AtanValues binary64 x result }
 {
-    generic_atan(x)
+    generic::atan::atan(x)
 }

@@ -1,10 +1,12 @@
 // Arctangent of y/x (f64).
 ghost use Rattle.std.specs.Prelude.{◌≡◌};
 ghost use Rattle.std.specs.Float.{binary64};
+ghost use Rattle.std.proofs.Common.{rules};
 ghost use Rattle.anglelaws.specs.AnnexF.{Atan2Values};
 ghost use Rattle.anglelaws.specs.Atan2 as Atan2;
 
-use crate::generic::atan2::{Atan2Helper, HalfTurn, atan2 as generic_atan2};
+use crate::generic;
+use crate::generic::atan2::{Atan2Helper, HalfTurn};
 
 impl Atan2Helper for f64 {
     const PI: HalfTurn<f64> = HalfTurn {
@@ -13,9 +15,13 @@ impl Atan2Helper for f64 {
         cut: 64 << 20,
     };
 
-    fn half_turn() -> HalfTurn<f64> {
-        Self::PI
-    }
+    ghost PI = { record { pi = Atan2.pi binary64; pi_lo = Atan2.pi_lo binary64; cut = Atan2.cut binary64 } };
+
+    ghost pi = { Prim.search rules };
+
+    ghost pi_lo = { Prim.search rules };
+
+    ghost cut = { Prim.search rules };
 }
 
 /// Arctangent of `y/x` in the quadrant of (x, y), in radians, from -pi to pi.
@@ -23,5 +29,5 @@ pub fn atan2(y: f64, x: f64) -> f64
     ensures value { result ≡ Atan2.atan2 binary64 y x }
     ensures special { Atan2Values binary64 y x result }
 {
-    generic_atan2(y, x)
+    generic::atan2::atan2(y, x)
 }

@@ -1,10 +1,12 @@
 // Arctangent of y/x (f32).
 ghost use Rattle.std.specs.Prelude.{◌≡◌};
 ghost use Rattle.std.specs.Float.{binary32};
+ghost use Rattle.std.proofs.Common.{rules};
 ghost use Rattle.anglelaws.specs.AnnexF.{Atan2Values};
 ghost use Rattle.anglelaws.specs.Atan2 as Atan2;
 
-use crate::generic::atan2::{Atan2Helper, HalfTurn, atan2 as generic_atan2};
+use crate::generic;
+use crate::generic::atan2::{Atan2Helper, HalfTurn};
 
 impl Atan2Helper for f32 {
     const PI: HalfTurn<f32> = HalfTurn {
@@ -13,9 +15,13 @@ impl Atan2Helper for f32 {
         cut: 26 << 23,
     };
 
-    fn half_turn() -> HalfTurn<f32> {
-        Self::PI
-    }
+    ghost PI = { record { pi = Atan2.pi binary32; pi_lo = Atan2.pi_lo binary32; cut = Atan2.cut binary32 } };
+
+    ghost pi = { Prim.search rules };
+
+    ghost pi_lo = { Prim.search rules };
+
+    ghost cut = { Prim.search rules };
 }
 
 /// Arctangent of `y/x` in the quadrant of (x, y), in radians, from -pi to pi.
@@ -23,5 +29,5 @@ pub fn atan2f(y: f32, x: f32) -> f32
     ensures value { result ≡ Atan2.atan2 binary32 y x }
     ensures special { Atan2Values binary32 y x result }
 {
-    generic_atan2(y, x)
+    generic::atan2::atan2(y, x)
 }

@@ -1,10 +1,12 @@
 // Arctangent (f32).
 ghost use Rattle.std.specs.Prelude.{◌≡◌};
 ghost use Rattle.std.specs.Float.{binary32};
+ghost use Rattle.std.proofs.Common.{rules};
 ghost use Rattle.anglelaws.specs.AnnexF.{AtanValues};
 ghost use Rattle.anglelaws.specs.Atan as Atan;
 
-use crate::generic::atan::{AtanHelper, Centre, Cuts, atan as generic_atan};
+use crate::generic;
+use crate::generic::atan::{AtanHelper, Centre, Cuts};
 
 const ATAN_HI: [f32; 4] = [
     4.6364760399e-01, /* atan(0.5)hi 0x3eed6338 */
@@ -29,16 +31,18 @@ const A_T: [f32; 5] = [
 ];
 
 impl AtanHelper for f32 {
-    fn cuts() -> Cuts {
-        Cuts {
-            tiny: 0x3980_0000,
-            straight: 0x3ee0_0000,
-            about_half: 0x3f30_0000,
-            about_one: 0x3f98_0000,
-            about_three_halves: 0x401c_0000,
-            large: 0x4c80_0000,
-        }
-    }
+    const CUTS: Cuts = Cuts {
+        tiny: 0x3980_0000,
+        straight: 0x3ee0_0000,
+        about_half: 0x3f30_0000,
+        about_one: 0x3f98_0000,
+        about_three_halves: 0x401c_0000,
+        large: 0x4c80_0000,
+    };
+
+    ghost CUTS = { record { tiny = Atan.tiny binary32; straight = Atan.straight binary32; about_half = Atan.about_half binary32; about_one = Atan.about_one binary32; about_three_halves = Atan.about_three_halves binary32; large = Atan.large binary32 } };
+
+    ghost cuts = { Prim.search rules };
 
     fn atan_hi(centre: Centre) -> f32 {
         ATAN_HI[centre as usize]
@@ -63,5 +67,5 @@ pub fn atanf(x: f32) -> f32
     ensures value { result ≡ Atan.atan binary32 x }
     ensures special { AtanValues binary32 x result }
 {
-    generic_atan(x)
+    generic::atan::atan(x)
 }

@@ -1,87 +1,144 @@
 // Small numbers, for formulas that serve both widths, and the top words of some.
-ghost use Rattle.std.specs.Prelude.{◌≡◌};
+ghost use Rattle.std.specs.Prelude.{ℕ};
+ghost use Rattle.std.specs.Float.{binary32, binary64};
+ghost use Rattle.std.proofs.Common.{rules};
 ghost use Rattle.anglelaws.specs.Numbers as Numbers;
 ghost use Rattle.anglelaws.specs.Words.{half_word, one_word, infinity_word};
+ghost use Rattle.angle.specs.Numerals.{Small};
 
 use width::Width;
 
-/// The small numbers that the formulas have.
-#[derive(Clone, Copy)]
-pub struct Small<W> {
-    pub zero: W,
-    pub half: W,
-    pub one: W,
-    pub three_halves: W,
-    pub two: W,
-    pub three: W,
-    pub four: W,
-}
-
-/// The top words of numbers that the branches tell.
-#[derive(Clone, Copy)]
-pub struct Tops {
-    pub half: u32,
-    pub one: u32,
-    pub infinity: u32,
-}
-
-/// A width with its small numbers.
+/// A width with its small numbers, and the top words of some.
 pub trait Numerals: Width {
-    fn small() -> Small<Self>
-        ensures zero { Self.Width.val result.zero ≡ Numbers.zero Self.Width.fmt }
-        ensures half { Self.Width.val result.half ≡ Numbers.half Self.Width.fmt }
-        ensures one { Self.Width.val result.one ≡ Numbers.one Self.Width.fmt }
-        ensures three_halves { Self.Width.val result.three_halves ≡ Numbers.three_halves Self.Width.fmt }
-        ensures two { Self.Width.val result.two ≡ Numbers.two Self.Width.fmt }
-        ensures three { Self.Width.val result.three ≡ Numbers.three Self.Width.fmt }
-        ensures four { Self.Width.val result.four ≡ Numbers.four Self.Width.fmt };
+    const ZERO: Self;
 
-    fn tops() -> Tops
-        ensures half { result.half ≡ half_word Self.Width.fmt }
-        ensures one { result.one ≡ one_word Self.Width.fmt }
-        ensures infinity { result.infinity ≡ infinity_word Self.Width.fmt };
+    const HALF: Self;
+
+    const ONE: Self;
+
+    const THREE_HALVES: Self;
+
+    const TWO: Self;
+
+    const THREE: Self;
+
+    const FOUR: Self;
+
+    const HALF_WORD: u32;
+
+    const ONE_WORD: u32;
+
+    const INFINITY_WORD: u32;
+
+    ghost ZERO: { Self };
+
+    ghost HALF: { Self };
+
+    ghost ONE: { Self };
+
+    ghost THREE_HALVES: { Self };
+
+    ghost TWO: { Self };
+
+    ghost THREE: { Self };
+
+    ghost FOUR: { Self };
+
+    ghost HALF_WORD: { ℕ };
+
+    ghost ONE_WORD: { ℕ };
+
+    ghost INFINITY_WORD: { ℕ };
+
+    ghost small: { Small Self.Width.fmt (Self.Width.val ZERO) (Self.Width.val HALF) (Self.Width.val ONE)
+        (Self.Width.val THREE_HALVES) (Self.Width.val TWO) (Self.Width.val THREE) (Self.Width.val FOUR)
+        HALF_WORD ONE_WORD INFINITY_WORD };
 }
 
 impl Numerals for f64 {
-    fn small() -> Small<f64> {
-        Small {
-            zero: 0.,
-            half: 0.5,
-            one: 1.,
-            three_halves: 1.5,
-            two: 2.,
-            three: 3.,
-            four: 4.,
-        }
-    }
+    const ZERO: f64 = 0.;
 
-    fn tops() -> Tops {
-        Tops {
-            half: 0x3fe0_0000,
-            one: 0x3ff0_0000,
-            infinity: 0x7ff0_0000,
-        }
-    }
+    const HALF: f64 = 0.5;
+
+    const ONE: f64 = 1.;
+
+    const THREE_HALVES: f64 = 1.5;
+
+    const TWO: f64 = 2.;
+
+    const THREE: f64 = 3.;
+
+    const FOUR: f64 = 4.;
+
+    const HALF_WORD: u32 = 0x3fe0_0000;
+
+    const ONE_WORD: u32 = 0x3ff0_0000;
+
+    const INFINITY_WORD: u32 = 0x7ff0_0000;
+
+    ghost ZERO = { Numbers.zero binary64 };
+
+    ghost HALF = { Numbers.half binary64 };
+
+    ghost ONE = { Numbers.one binary64 };
+
+    ghost THREE_HALVES = { Numbers.three_halves binary64 };
+
+    ghost TWO = { Numbers.two binary64 };
+
+    ghost THREE = { Numbers.three binary64 };
+
+    ghost FOUR = { Numbers.four binary64 };
+
+    ghost HALF_WORD = { half_word binary64 };
+
+    ghost ONE_WORD = { one_word binary64 };
+
+    ghost INFINITY_WORD = { infinity_word binary64 };
+
+    ghost small = { Prim.search rules };
 }
 
 impl Numerals for f32 {
-    fn small() -> Small<f32> {
-        Small {
-            zero: 0.,
-            half: 0.5,
-            one: 1.,
-            three_halves: 1.5,
-            two: 2.,
-            three: 3.,
-            four: 4.,
-        }
-    }
+    const ZERO: f32 = 0.;
 
-    fn tops() -> Tops {
-        Tops {
-            half: 0x3f00_0000,
-            one: 0x3f80_0000,
-            infinity: 0x7f80_0000,
-        }
-    }
+    const HALF: f32 = 0.5;
+
+    const ONE: f32 = 1.;
+
+    const THREE_HALVES: f32 = 1.5;
+
+    const TWO: f32 = 2.;
+
+    const THREE: f32 = 3.;
+
+    const FOUR: f32 = 4.;
+
+    const HALF_WORD: u32 = 0x3f00_0000;
+
+    const ONE_WORD: u32 = 0x3f80_0000;
+
+    const INFINITY_WORD: u32 = 0x7f80_0000;
+
+    ghost ZERO = { Numbers.zero binary32 };
+
+    ghost HALF = { Numbers.half binary32 };
+
+    ghost ONE = { Numbers.one binary32 };
+
+    ghost THREE_HALVES = { Numbers.three_halves binary32 };
+
+    ghost TWO = { Numbers.two binary32 };
+
+    ghost THREE = { Numbers.three binary32 };
+
+    ghost FOUR = { Numbers.four binary32 };
+
+    ghost HALF_WORD = { half_word binary32 };
+
+    ghost ONE_WORD = { one_word binary32 };
+
+    ghost INFINITY_WORD = { infinity_word binary32 };
+
+    ghost small = { Prim.search rules };
 }

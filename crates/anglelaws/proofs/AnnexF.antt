@@ -257,3 +257,15 @@ atan2_values f y x k t = record {
   far_up_one = λ s e i. ap₂ (atan2 f) e i ∙ over_one f s ∙ atan_infinity f s;
   corner = λ s r e i. ap₂ (atan2 f) e i ∙ corners f s r;
 }
+
+pub atan_special : (f : Format) (x r : Float) → T (fits f x) → r ≡ atan f x → AtanValues f x r
+atan_special f x r k e = subst (λ v. AtanValues f x v) (sym e) (atan_values f x k)
+
+pub asin_special : (f : Format) (x r : Float) → T (fits f x) → r ≡ asin f x → AsinValues f x r
+asin_special f x r k e = subst (λ v. AsinValues f x v) (sym e) (asin_values f x k)
+
+pub acos_special : (f : Format) (x r : Float) → T (fits f x) → r ≡ acos f x → AcosValues f x r
+acos_special f x r k e = subst (λ v. AcosValues f x v) (sym e) (acos_values f x k)
+
+pub atan2_special : (f : Format) (y x r : Float) → T (fits f y) → T (fits f x) → r ≡ atan2 f y x → Atan2Values f y x r
+atan2_special f y x r j k e = subst (λ v. Atan2Values f y x v) (sym e) (atan2_values f y x j k)

@@ -1,6 +1,7 @@
 -- The high part of a root.
 use Rattle.std.proofs.Common.{◌≡◌, ℕ, ◌*◌, ◌/◌, ◌%◌, ◌^◌, ◌<◌, ◌≤◌, true, false, cond, not, T, ltb, sym, ap, ◌∙◌, subst, arith}
-use lib.Ieee.{Float, Format, binary32, binary64, ones, hid, top, fits, is_nan, nan_bits, of_bits, to_bits}
+use lib.Ieee.{Float, Format, binary32, binary64, ones, hid, top, fits, mul, is_nan, nan_bits, of_bits, to_bits}
+use lib.Ieee.Fits.{mul-fits}
 use lib.Ieee.Bits.{to_bits-lt, of_bits-to_bits, nan_bits_is, nan_bits_above}
 use Rattle.std.proofs.lemmas.Bool.{le-ltb, ltb-false}
 use Rattle.width.specs.Shape.{shape_of, width}
@@ -37,3 +38,7 @@ module _ (f : Format) (s : Float) (k : T (fits f s)) (n : is_nan s ≡ false) wh
     where
       below : (x y z : ℕ) → x ≤ y → y ≤ z → x ≤ z
       below x y z h l = omega arith
+
+-- what is rounded fits, so its root is the nearest one
+pub product_fits : (f : Format) (x y z : Float) → z ≡ mul f x y → T (fits f z)
+product_fits f x y z e = subst (λ v. T (fits f v)) (sym e) (mul-fits f x y)

@@ -1,11 +1,12 @@
 // Arctangent.
 ghost use Rattle.std.specs.Prelude.{◌≡◌};
+ghost use Rattle.anglelaws.specs.AnnexF.{AtanValues};
 ghost use Rattle.anglelaws.specs.Atan as Atan;
 ghost use Rattle.angle.specs.Centres.{place};
 
 use crate::numbers::Numerals;
 use crate::sign::{Fabs, signed};
-use crate::words::{Words, read};
+use crate::words::{Number, read};
 use width::Width;
 
 /// What the argument is taken about: the arctangent of each stands in the width's tables.
@@ -30,13 +31,14 @@ pub struct Cuts {
 
 /// What a width brings to the arctangent.
 pub trait AtanHelper: Numerals + Fabs {
-    fn cuts() -> Cuts
-        ensures tiny { result.tiny ≡ Atan.tiny Self.Width.fmt }
-        ensures straight { result.straight ≡ Atan.straight Self.Width.fmt }
-        ensures about_half { result.about_half ≡ Atan.about_half Self.Width.fmt }
-        ensures about_one { result.about_one ≡ Atan.about_one Self.Width.fmt }
-        ensures about_three_halves { result.about_three_halves ≡ Atan.about_three_halves Self.Width.fmt }
-        ensures large { result.large ≡ Atan.large Self.Width.fmt };
+    ghost use Rattle.angle.specs.Cuts.{CutsOf};
+    ghost use Rattle.angle.specs.declared.generic.atan.Cuts.{Cuts};
+
+    const CUTS: Cuts;
+
+    ghost CUTS: { Cuts };
+
+    // The tables stay behind methods: generic code has no constant array of `Self`.
 
     /// The arctangent of a centre, rounded.
     fn atan_hi(centre: Centre) -> Self
@@ -49,6 +51,8 @@ pub trait AtanHelper: Numerals + Fabs {
     /// The polynomial, for a small argument.
     fn series(self) -> Self
         ensures { Self.Width.val result ≡ Atan.series Self.Width.fmt (Self.Width.val self) };
+
+    ghost cuts: { CutsOf Self.Width.fmt CUTS };
 }
 
 // Reduces the size `x`, whose top word is `ix`, to a small argument about a centre.
@@ -56,21 +60,19 @@ fn reduced<W: AtanHelper>(x: W, ix: u32) -> (Centre, W)
     ensures centre { place result.0 ≡ Atan.centre W.Width.fmt ix }
     ensures value { W.Width.val result.1 ≡ Atan.reduced W.Width.fmt ix (W.Width.val x) }
 {
-    let k = W::small();
-    let cuts = W::cuts();
-    if ix < cuts.about_one {
-        if ix < cuts.about_half {
-            (Centre::Half, (k.two * x - k.one) / (k.two + x))
+    if ix < W::CUTS.about_one {
+        if ix < W::CUTS.about_half {
+            (Centre::Half, (W::TWO * x - W::ONE) / (W::TWO + x))
         } else {
-            (Centre::One, (x - k.one) / (x + k.one))
+            (Centre::One, (x - W::ONE) / (x + W::ONE))
         }
-    } else if ix < cuts.about_three_halves {
+    } else if ix < W::CUTS.about_three_halves {
         (
             Centre::ThreeHalves,
-            (x - k.three_halves) / (k.one + k.three_halves * x),
+            (x - W::THREE_HALVES) / (W::ONE + W::THREE_HALVES * x),
         )
     } else {
-        (Centre::Infinity, -k.one / x)
+        (Centre::Infinity, -W::ONE / x)
     }
 }
 
@@ -88,23 +90,31 @@ fn turned<W: AtanHelper>(centre: Centre, x: W) -> W
     W::atan_hi(centre) - (x * x.series() - W::atan_lo(centre) - x)
 }
 
-/// Arctangent, in radians, from -pi/2 to pi/2.
-pub fn atan<W: AtanHelper>(x: W) -> W
-    ensures { W.Width.val result ≡ Atan.atan W.Width.fmt (W.Width.val x) }
+// The arctangent of what is no NaN.
+fn of_number<W: AtanHelper>(x: Number<W>) -> W
+    ensures { W.Width.val result ≡ Atan.atan W.Width.fmt (W.Width.val x.value) }
 {
-    let Some(Words { negative, ix, .. }) = read(x) else {
-        return x;
-    };
-    let cuts = W::cuts();
-    if ix >= cuts.large {
-        return signed(negative, W::atan_hi(Centre::Infinity));
+    if x.ix >= W::CUTS.large {
+        return signed(x.negative, W::atan_hi(Centre::Infinity));
     }
-    if ix < cuts.straight {
-        if ix < cuts.tiny {
-            return x;
+    if x.ix < W::CUTS.straight {
+        if x.ix < W::CUTS.tiny {
+            return x.value;
         }
-        return near(x);
+        return near(x.value);
     }
-    let (centre, t) = reduced(x.fabs(), ix);
-    signed(negative, turned(centre, t))
+    let (centre, t) = reduced(x.value.fabs(), x.ix);
+    signed(x.negative, turned(centre, t))
+}
+
+/// Arctangent, in radians, from -pi/2 to pi/2.
+#[tactic(auto, using(anglelaws::proofs::AnnexF::atan_special))]
+pub fn atan<W: AtanHelper>(x: W) -> W
+    ensures value { W.Width.val result ≡ Atan.atan W.Width.fmt (W.Width.val x) }
+    ensures special { AtanValues W.Width.fmt (W.Width.val x) (W.Width.val result) }
+{
+    match read(x) {
+        None => x,
+        Some(x) => of_number(x),
+    }
 }

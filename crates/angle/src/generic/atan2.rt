@@ -1,12 +1,12 @@
 // Arctangent of y/x.
-ghost use Rattle.std.specs.Prelude.{◌≡◌, ℕ, ◌+◌, ◌<◌, Bool, cond, not, ◌&&◌, ◌||◌, nat_lt};
+ghost use Rattle.std.specs.Prelude.{◌≡◌, ◌+◌, nat_lt};
+ghost use Rattle.anglelaws.specs.AnnexF.{Atan2Values};
 ghost use Rattle.anglelaws.specs.Atan2 as Atan2;
-ghost use Rattle.angle.specs.Words.{WordsOf};
 
 use crate::generic::atan::{AtanHelper, atan};
 use crate::numbers::Numerals;
 use crate::sign::{Fabs, signed};
-use crate::words::{Words, read};
+use crate::words::{Number, read};
 use width::Width;
 
 /// The constants of a width: pi, what that lacks, and from which quotient on a line is upright or
@@ -20,66 +20,86 @@ pub struct HalfTurn<W> {
 
 /// What a width brings to the arctangent of y/x.
 pub trait Atan2Helper: AtanHelper {
+    ghost use Rattle.angle.specs.declared.generic.atan2.HalfTurn.{HalfTurn};
+
     const PI: HalfTurn<Self>;
 
-    /// The constant above, for code that is generic in the width.
-    fn half_turn() -> HalfTurn<Self>
-        ensures pi { Self.Width.val result.pi ≡ Atan2.pi Self.Width.fmt }
-        ensures pi_lo { Self.Width.val result.pi_lo ≡ Atan2.pi_lo Self.Width.fmt }
-        ensures cut { result.cut ≡ Atan2.cut Self.Width.fmt };
+    ghost PI: { HalfTurn Self };
+
+    ghost pi: { Self.Width.val PI.pi ≡ Atan2.pi Self.Width.fmt };
+
+    ghost pi_lo: { Self.Width.val PI.pi_lo ≡ Atan2.pi_lo Self.Width.fmt };
+
+    ghost cut: { PI.cut ≡ Atan2.cut Self.Width.fmt };
 }
 
-// y is zero: atan(+-0, +anything) = +-0, atan(+-0, -anything) = +-PI.
-fn level<W: Atan2Helper>(y_negative: bool, x_negative: bool, y: W) -> W
-    ensures { W.Width.val result ≡ Atan2.level W.Width.fmt y_negative x_negative (W.Width.val y) }
-{
-    if x_negative {
-        signed(y_negative, W::half_turn().pi)
-    } else {
-        y
+// The quadrant of (x, y), by the sign bits.
+#[derive(Clone, Copy)]
+struct Quadrant {
+    y_negative: bool,
+    x_negative: bool,
+}
+
+impl Quadrant {
+    fn of<W: Width>(y: &Number<W>, x: &Number<W>) -> Quadrant
+        ensures y { result.y_negative ≡ y.now.negative }
+        ensures x { result.x_negative ≡ x.now.negative }
+    {
+        Quadrant {
+            y_negative: y.negative,
+            x_negative: x.negative,
+        }
     }
-}
 
-// x is zero, or y/x is large: +-PI / 2.
-fn upright<W: Atan2Helper>(y_negative: bool) -> W
-    ensures { W.Width.val result ≡ Atan2.upright W.Width.fmt y_negative }
-{
-    signed(y_negative, W::half_turn().pi) / W::small().two
-}
-
-// Both are infinite: +-PI / 4 or +-3 PI / 4.
-fn diagonal<W: Atan2Helper>(y_negative: bool, x_negative: bool) -> W
-    ensures { W.Width.val result ≡ Atan2.diagonal W.Width.fmt y_negative x_negative }
-{
-    let k = W::small();
-    let pi = W::half_turn().pi;
-    if x_negative {
-        signed(y_negative, k.three) * pi / k.four
-    } else {
-        signed(y_negative, pi) / k.four
+    // y is zero: atan(+-0, +anything) = +-0, atan(+-0, -anything) = +-PI.
+    fn level<W: Atan2Helper>(self, y: W) -> W
+        ensures { W.Width.val result ≡ Atan2.level W.Width.fmt self.y_negative self.x_negative (W.Width.val y) }
+    {
+        if self.x_negative {
+            signed(self.y_negative, W::PI.pi)
+        } else {
+            y
+        }
     }
-}
 
-// x is infinite, and y is not: +-0 or +-PI.
-fn along<W: Atan2Helper>(y_negative: bool, x_negative: bool) -> W
-    ensures { W.Width.val result ≡ Atan2.along W.Width.fmt y_negative x_negative }
-{
-    if x_negative {
-        signed(y_negative, W::half_turn().pi)
-    } else {
-        signed(y_negative, W::small().zero)
+    // x is zero, or y/x is large: +-PI / 2.
+    fn upright<W: Atan2Helper>(self) -> W
+        ensures { W.Width.val result ≡ Atan2.upright W.Width.fmt self.y_negative }
+    {
+        signed(self.y_negative, W::PI.pi) / W::TWO
     }
-}
 
-// The angle `z` of the sizes, put into its quadrant.
-fn placed<W: Atan2Helper>(y_negative: bool, x_negative: bool, z: W) -> W
-    ensures { W.Width.val result ≡ Atan2.placed W.Width.fmt y_negative x_negative (W.Width.val z) }
-{
-    let HalfTurn { pi, pi_lo, .. } = W::half_turn();
-    match (y_negative, x_negative) {
-        (_, false) => signed(y_negative, z), /* atan(+-, +) */
-        (false, true) => pi - (z - pi_lo), /* atan(+, -) */
-        (true, true) => (z - pi_lo) - pi, /* atan(-, -) */
+    // Both are infinite: +-PI / 4 or +-3 PI / 4.
+    fn diagonal<W: Atan2Helper>(self) -> W
+        ensures { W.Width.val result ≡ Atan2.diagonal W.Width.fmt self.y_negative self.x_negative }
+    {
+        if self.x_negative {
+            signed(self.y_negative, W::THREE) * W::PI.pi / W::FOUR
+        } else {
+            signed(self.y_negative, W::PI.pi) / W::FOUR
+        }
+    }
+
+    // x is infinite, and y is not: +-0 or +-PI.
+    fn along<W: Atan2Helper>(self) -> W
+        ensures { W.Width.val result ≡ Atan2.along W.Width.fmt self.y_negative self.x_negative }
+    {
+        if self.x_negative {
+            signed(self.y_negative, W::PI.pi)
+        } else {
+            signed(self.y_negative, W::ZERO)
+        }
+    }
+
+    // The angle `z` of the sizes, put into the quadrant.
+    fn placed<W: Atan2Helper>(self, z: W) -> W
+        ensures { W.Width.val result ≡ Atan2.placed W.Width.fmt self.y_negative self.x_negative (W.Width.val z) }
+    {
+        match (self.y_negative, self.x_negative) {
+            (_, false) => signed(self.y_negative, z), /* atan(+-, +) */
+            (false, true) => W::PI.pi - (z - W::PI.pi_lo), /* atan(+, -) */
+            (true, true) => (z - W::PI.pi_lo) - W::PI.pi, /* atan(-, -) */
+        }
     }
 }
 
@@ -87,7 +107,7 @@ fn placed<W: Atan2Helper>(y_negative: bool, x_negative: bool, z: W) -> W
 fn past_cut<W: Atan2Helper>(small: u32, large: u32) -> bool
     ensures { result ≡ nat_lt (small + Atan2.cut W.Width.fmt) large }
 {
-    u64::from(small) + u64::from(W::half_turn().cut) < u64::from(large)
+    u64::from(small) + u64::from(W::PI.cut) < u64::from(large)
 }
 
 // The angle of the sizes, atan(|y/x|) without spurious underflow, or 0.
@@ -95,56 +115,57 @@ fn acute<W: Atan2Helper>(y: W, x: W, none: bool) -> W
     ensures { W.Width.val result ≡ Atan2.acute W.Width.fmt (W.Width.val y) (W.Width.val x) none }
 {
     if none {
-        W::small().zero
+        W::ZERO
     } else {
         atan((y / x).fabs())
     }
 }
 
 // Both are finite, and neither is zero; or y is infinite.
-fn quotient<W: Atan2Helper>(y: W, x: W, wy: Words, wx: Words) -> W
-    ensures { WordsOf W.Width.fmt (W.Width.val y) wy → WordsOf W.Width.fmt (W.Width.val x) wx → W.Width.val result ≡ Atan2.quotient W.Width.fmt (W.Width.val y) (W.Width.val x) }
+fn quotient<W: Atan2Helper>(y: Number<W>, x: Number<W>) -> W
+    ensures { W.Width.val result ≡ Atan2.quotient W.Width.fmt (W.Width.val y.value) (W.Width.val x.value) }
 {
-    if past_cut::<W>(wx.ix, wy.ix) || wy.ix == W::tops().infinity {
-        return upright(wy.negative);
+    let quadrant = Quadrant::of(&y, &x);
+    if past_cut::<W>(x.ix, y.ix) || y.ix == W::INFINITY_WORD {
+        return quadrant.upright();
     }
     /* |y/x| is small, x < 0 */
-    let none = wx.negative && past_cut::<W>(wy.ix, wx.ix);
-    placed(wy.negative, wx.negative, acute(y, x, none))
+    let none = x.negative && past_cut::<W>(y.ix, x.ix);
+    quadrant.placed(acute(y.value, x.value, none))
 }
 
 // Neither is NaN.
-fn of_numbers<W: Atan2Helper>(y: W, x: W, wy: Words, wx: Words) -> W
-    ensures { WordsOf W.Width.fmt (W.Width.val y) wy → WordsOf W.Width.fmt (W.Width.val x) wx → W.Width.val result ≡ Atan2.of_numbers W.Width.fmt (W.Width.val y) (W.Width.val x) }
+fn of_numbers<W: Atan2Helper>(y: Number<W>, x: Number<W>) -> W
+    ensures { W.Width.val result ≡ Atan2.of_numbers W.Width.fmt (W.Width.val y.value) (W.Width.val x.value) }
 {
-    let top = W::tops();
-    if !wx.negative && wx.size_is(top.one) {
-        return atan(y);
+    let quadrant = Quadrant::of(&y, &x);
+    if !x.negative && x.size_is(W::ONE_WORD) {
+        return atan(y.value);
     }
-    if wy.size_is(0) {
-        return level(wy.negative, wx.negative, y);
+    if y.size_is(0) {
+        return quadrant.level(y.value);
     }
-    if wx.size_is(0) {
-        return upright(wy.negative);
+    if x.size_is(0) {
+        return quadrant.upright();
     }
-    if wx.ix == top.infinity {
-        if wy.ix == top.infinity {
-            return diagonal(wy.negative, wx.negative);
+    if x.ix == W::INFINITY_WORD {
+        if y.ix == W::INFINITY_WORD {
+            return quadrant.diagonal();
         }
-        return along(wy.negative, wx.negative);
+        return quadrant.along();
     }
-    quotient(y, x, wy, wx)
+    quotient(y, x)
 }
 
 /// Arctangent of y/x in the quadrant of (x, y), in radians, from -pi to pi.
+#[tactic(auto, using(anglelaws::proofs::AnnexF::atan2_special))]
 pub fn atan2<W: Atan2Helper>(y: W, x: W) -> W
-    ensures { W.Width.val result ≡ Atan2.atan2 W.Width.fmt (W.Width.val y) (W.Width.val x) }
+    ensures value { W.Width.val result ≡ Atan2.atan2 W.Width.fmt (W.Width.val y) (W.Width.val x) }
+    ensures special { Atan2Values W.Width.fmt (W.Width.val y) (W.Width.val x) (W.Width.val result) }
 {
-    let Some(wx) = read(x) else {
-        return x + y;
-    };
-    let Some(wy) = read(y) else {
-        return x + y;
-    };
-    of_numbers(y, x, wy, wx)
+    match (read(y), read(x)) {
+        (Some(y), Some(x)) => of_numbers(y, x),
+        (_, None) => x + y,
+        (None, _) => x + y,
+    }
 }
