@@ -51,6 +51,7 @@ impl ArcHelper for f64 {
         p / q
     }
 
+    #[tactic(auto, using(anglelaws::proofs::Roots::nan_high, anglelaws::proofs::Roots::high_is, anglelaws::proofs::Roots::high_number))]
     fn high_part(self) -> f64 {
         if self.is_nan() {
             return self;

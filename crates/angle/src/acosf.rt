@@ -39,6 +39,7 @@ impl ArcHelper for f32 {
         p / q
     }
 
+    #[tactic(auto, using(anglelaws::proofs::Roots::nan_high, anglelaws::proofs::Roots::high_is, anglelaws::proofs::Roots::high_number))]
     fn high_part(self) -> f32 {
         if self.is_nan() {
             return self;

@@ -43,6 +43,7 @@ fn known_angles() -> bool
 /// Asks for the known answers, the roots from the ported unit. That each comes as stated is proved,
 /// so an answer `false` means that the program was not built as it is written. When a root unit is
 /// asked is proved here too.
+#[tactic(auto, using(crate::proofs::Rows::known_rows, anglelaws::proofs::Asked::from_half))]
 pub fn known_answers() -> bool
     ensures rows { AllByRecursion Known rows }
     ensures asked { FromHalf }

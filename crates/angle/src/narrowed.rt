@@ -6,6 +6,7 @@ use std::num::nearest_f64_to_f32_with_nan;
 use width::Width;
 
 // Of a wide pattern, for sizes from 2^-126 to below 2^127: rounded, they stay normal and finite.
+#[tactic(auto, using(anglelaws::proofs::Narrowed::nearest_narrow, anglelaws::proofs::Narrowed::narrow_number))]
 fn narrowed_bits(bits: u64) -> f32
     requires { (0x3810_0000_0000_0000 ≤ bits % 2 ^ 63) × (bits % 2 ^ 63 < 0x47e0_0000_0000_0000) }
     ensures { result ≡ round_to_format binary32 (from_bits binary64 bits) }
