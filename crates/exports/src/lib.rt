@@ -1,84 +1,47 @@
-// The ten functions on patterns. Any pattern may come in; a NaN goes out as the quiet one with a
-// clear sign. `exports_c` hands them to C.
+// The functions on patterns, at either width. Any pattern may come in; a NaN goes out as the quiet
+// one with a clear sign. `exports_c` hands them to C.
 #![tactic(auto)]
 
 ghost use Rattle.std.specs.Prelude.{◌≡◌, from_bits, to_bits};
-ghost use Rattle.std.specs.Float.{binary32, binary64};
-ghost use Rattle.width.specs.Shape.{shape_of};
 ghost use Rattle.rootlaws.specs.Roots.{RootBits};
 ghost use Rattle.anglelaws.specs.Arcs as Arcs;
 ghost use Rattle.anglelaws.specs.Atan as Atan;
 ghost use Rattle.anglelaws.specs.Atan2 as Atan2;
 
-use angle::acos::acos;
-use angle::acosf::acosf;
-use angle::asin::asin;
-use angle::asinf::asinf;
-use angle::atan::atan;
-use angle::atan2::atan2;
-use angle::atan2f::atan2f;
-use angle::atanf::atanf;
-use root::sqrt::sqrt_round;
-use std::num::{
-    f32_from_bits_with_nan, f32_to_bits_with_nan, f64_from_bits_with_nan, f64_to_bits_with_nan,
-};
+use angle::generic;
+use angle::generic::acos::ArcHelper;
+use angle::generic::asin::AsinHelper;
+use angle::generic::atan::AtanHelper;
+use angle::generic::atan2::Atan2Helper;
+use root::sqrt::{SqrtHelper, sqrt_round};
+use width::Width;
 
-pub fn jamcurfew_asin(x: u64) -> u64
-    ensures { result ≡ to_bits binary64 (Arcs.asin binary64 (from_bits binary64 x)) }
+pub fn asin<W: AsinHelper>(x: W::Int) -> W::Int
+    ensures { W.Int.Int.nat result ≡ to_bits W.Width.fmt (Arcs.asin W.Width.fmt (from_bits W.Width.fmt (W.Int.Int.nat x))) }
 {
-    f64_to_bits_with_nan(asin(f64_from_bits_with_nan(x)))
+    generic::asin::asin(W::from_pattern(x)).to_pattern()
 }
 
-pub fn jamcurfew_asinf(x: u32) -> u32
-    ensures { result ≡ to_bits binary32 (Arcs.asin binary32 (from_bits binary32 x)) }
+pub fn acos<W: ArcHelper>(x: W::Int) -> W::Int
+    ensures { W.Int.Int.nat result ≡ to_bits W.Width.fmt (Arcs.acos W.Width.fmt (from_bits W.Width.fmt (W.Int.Int.nat x))) }
 {
-    f32_to_bits_with_nan(asinf(f32_from_bits_with_nan(x)))
+    generic::acos::acos(W::from_pattern(x)).to_pattern()
 }
 
-pub fn jamcurfew_acos(x: u64) -> u64
-    ensures { result ≡ to_bits binary64 (Arcs.acos binary64 (from_bits binary64 x)) }
+pub fn atan<W: AtanHelper>(x: W::Int) -> W::Int
+    ensures { W.Int.Int.nat result ≡ to_bits W.Width.fmt (Atan.atan W.Width.fmt (from_bits W.Width.fmt (W.Int.Int.nat x))) }
 {
-    f64_to_bits_with_nan(acos(f64_from_bits_with_nan(x)))
+    generic::atan::atan(W::from_pattern(x)).to_pattern()
 }
 
-pub fn jamcurfew_acosf(x: u32) -> u32
-    ensures { result ≡ to_bits binary32 (Arcs.acos binary32 (from_bits binary32 x)) }
+pub fn atan2<W: Atan2Helper>(y: W::Int, x: W::Int) -> W::Int
+    ensures { W.Int.Int.nat result ≡ to_bits W.Width.fmt (Atan2.atan2 W.Width.fmt (from_bits W.Width.fmt (W.Int.Int.nat y)) (from_bits W.Width.fmt (W.Int.Int.nat x))) }
 {
-    f32_to_bits_with_nan(acosf(f32_from_bits_with_nan(x)))
+    generic::atan2::atan2(W::from_pattern(y), W::from_pattern(x)).to_pattern()
 }
 
-pub fn jamcurfew_atan(x: u64) -> u64
-    ensures { result ≡ to_bits binary64 (Atan.atan binary64 (from_bits binary64 x)) }
+pub fn sqrt<L: SqrtHelper>(x: L::Int) -> L::Int
+    ensures { RootBits L.Layout.shape (L.Int.Int.nat x) (L.Int.Int.nat result) }
 {
-    f64_to_bits_with_nan(atan(f64_from_bits_with_nan(x)))
-}
-
-pub fn jamcurfew_atanf(x: u32) -> u32
-    ensures { result ≡ to_bits binary32 (Atan.atan binary32 (from_bits binary32 x)) }
-{
-    f32_to_bits_with_nan(atanf(f32_from_bits_with_nan(x)))
-}
-
-pub fn jamcurfew_atan2(y: u64, x: u64) -> u64
-    ensures { result ≡ to_bits binary64 (Atan2.atan2 binary64 (from_bits binary64 y) (from_bits binary64 x)) }
-{
-    f64_to_bits_with_nan(atan2(f64_from_bits_with_nan(y), f64_from_bits_with_nan(x)))
-}
-
-pub fn jamcurfew_atan2f(y: u32, x: u32) -> u32
-    ensures { result ≡ to_bits binary32 (Atan2.atan2 binary32 (from_bits binary32 y) (from_bits binary32 x)) }
-{
-    f32_to_bits_with_nan(atan2f(f32_from_bits_with_nan(y), f32_from_bits_with_nan(x)))
-}
-
-pub fn jamcurfew_sqrt(x: u64) -> u64
-    ensures { RootBits (shape_of binary64) x result }
-{
-    sqrt_round::<f64>(x).val
-}
-
-pub fn jamcurfew_sqrtf(x: u32) -> u32
-    ensures { RootBits (shape_of binary32) x result }
-{
-    sqrt_round::<f32>(x).val
+    sqrt_round::<L>(x).val
 }

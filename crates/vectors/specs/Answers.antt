@@ -13,20 +13,20 @@ use Rattle.vectors.specs.declared.function.Precision.TheVariants as precisions
 use Rattle.vectors.specs.declared.question.Call.{Call}
 use Rattle.vectors.specs.declared.question.Call.TheVariants.{Asin, Acos, Atan, Atan2, Sqrt}
 use Rattle.vectors.specs.declared.question.Question.{Question}
-use Rattle.vectors.specs.declared.question.Question.TheVariants.{Double, Single}
+use Rattle.vectors.specs.declared.question.Question.TheVariants.{Wide, Narrow}
 
--- r is the answer of a call at one precision
-abbrev pub AnswersCall : Format → Call ℕ → ℕ → Type 0
-AnswersCall fmt (Asin x) r = r ≡ to_bits fmt (Arcs.asin fmt (from_bits fmt x))
-AnswersCall fmt (Acos x) r = r ≡ to_bits fmt (Arcs.acos fmt (from_bits fmt x))
-AnswersCall fmt (Atan x) r = r ≡ to_bits fmt (Atan.atan fmt (from_bits fmt x))
-AnswersCall fmt (Atan2 y x) r = r ≡ to_bits fmt (Atan2.atan2 fmt (from_bits fmt y) (from_bits fmt x))
-AnswersCall fmt (Sqrt x) r = RootBits (shape_of fmt) x r
+-- r is the answer of a call, patterns being the numbers that `nat` gives
+abbrev pub AnswersCall : {I : Type 0} → (I → ℕ) → Format → Call I → I → Type 0
+AnswersCall nat fmt (Asin x) r = nat r ≡ to_bits fmt (Arcs.asin fmt (from_bits fmt (nat x)))
+AnswersCall nat fmt (Acos x) r = nat r ≡ to_bits fmt (Arcs.acos fmt (from_bits fmt (nat x)))
+AnswersCall nat fmt (Atan x) r = nat r ≡ to_bits fmt (Atan.atan fmt (from_bits fmt (nat x)))
+AnswersCall nat fmt (Atan2 y x) r = nat r ≡ to_bits fmt (Atan2.atan2 fmt (from_bits fmt (nat y)) (from_bits fmt (nat x)))
+AnswersCall nat fmt (Sqrt x) r = RootBits (shape_of fmt) (nat x) (nat r)
 
 -- r is the answer to a question
 abbrev pub AnswerTo : Question → ℕ → Type 0
-AnswerTo (Double call) r = AnswersCall binary64 call r
-AnswerTo (Single call) r = AnswersCall binary32 call r
+AnswerTo (Wide call) r = AnswersCall (λ n. n) binary64 call r
+AnswerTo (Narrow call) r = AnswersCall (λ n. n) binary32 call r
 
 module _ {I : Type 0} where
   -- what a call computes
@@ -39,5 +39,5 @@ module _ {I : Type 0} where
 
 -- the function that a question calls
 abbrev pub function_of : Question → Function
-function_of (Double call) = record { kind = kind_of call; precision = precisions.Double }
-function_of (Single call) = record { kind = kind_of call; precision = precisions.Single }
+function_of (Wide call) = record { kind = kind_of call; precision = precisions.Wide }
+function_of (Narrow call) = record { kind = kind_of call; precision = precisions.Narrow }

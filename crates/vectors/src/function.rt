@@ -21,7 +21,7 @@ pub enum Kind {
 impl Kind {
     pub const ALL: [Kind; 5] = [Kind::Asin, Kind::Acos, Kind::Atan, Kind::Atan2, Kind::Sqrt];
 
-    /// Its name at double precision.
+    /// Its name at wide precision.
     fn stem(self) -> &'static str
         ensures { result.now ≡ stem_of self }
     {
@@ -55,20 +55,20 @@ impl FromStr for Kind {
 
 #[derive(Clone, Copy, PartialEq, Eq, PartialOrd, Ord)]
 pub enum Precision {
-    Double,
-    Single,
+    Wide,
+    Narrow,
 }
 
 impl Precision {
-    pub const ALL: [Precision; 2] = [Precision::Double, Precision::Single];
+    pub const ALL: [Precision; 2] = [Precision::Wide, Precision::Narrow];
 
     /// What it adds to a name.
     fn suffix(self) -> &'static str
         ensures { result.now ≡ suffix_of self }
     {
         match self {
-            Precision::Double => "",
-            Precision::Single => "f",
+            Precision::Wide => "",
+            Precision::Narrow => "f",
         }
     }
 }
@@ -97,8 +97,8 @@ impl FromStr for Function {
     #[tactic(auto, using(crate::proofs::Names::unknown_stem))]
     fn from_str(name: &str) -> Result<Self, UnknownFunction> {
         let (stem, precision) = match name.strip_suffix("f") {
-            Some(stem) => (stem, Precision::Single),
-            None => (name, Precision::Double),
+            Some(stem) => (stem, Precision::Narrow),
+            None => (name, Precision::Wide),
         };
         let kind = stem.parse()?;
         Ok(Function { kind, precision })

@@ -71,8 +71,8 @@ fn read_question(function: Function, words: &mut SplitWhitespace<'_>) -> Option<
     ensures { IfSome result (λ question. function_of question ≡ function) }
 {
     Some(match function.precision {
-        Precision::Double => Question::Double(read_call(function.kind, words)?),
-        Precision::Single => Question::Single(read_call(function.kind, words)?),
+        Precision::Wide => Question::Wide(read_call(function.kind, words)?),
+        Precision::Narrow => Question::Narrow(read_call(function.kind, words)?),
     })
 }
 

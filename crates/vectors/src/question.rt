@@ -1,9 +1,11 @@
 // A call of one of the ten functions, with its readings as patterns.
 ghost use Rattle.std.specs.Prelude.{◌≡◌};
-ghost use Rattle.std.specs.Float.{binary32, binary64};
 ghost use Rattle.vectors.specs.Answers.{AnswersCall, AnswerTo, kind_of, function_of};
 
 use crate::function::{Function, Kind, Precision};
+use angle::generic::asin::AsinHelper;
+use angle::generic::atan2::Atan2Helper;
+use root::sqrt::SqrtHelper;
 
 /// A call at the precision whose patterns are of the type `I`.
 #[derive(Clone, Copy)]
@@ -29,39 +31,23 @@ impl<I> Call<I> {
     }
 }
 
-// Two blocks, since `exports` has a function of its own for each width.
-impl Call<u64> {
-    fn answer(self) -> u64
-        ensures { AnswersCall binary64 self result }
-    {
-        match self {
-            Call::Asin(x) => exports::jamcurfew_asin(x),
-            Call::Acos(x) => exports::jamcurfew_acos(x),
-            Call::Atan(x) => exports::jamcurfew_atan(x),
-            Call::Atan2(y, x) => exports::jamcurfew_atan2(y, x),
-            Call::Sqrt(x) => exports::jamcurfew_sqrt(x),
-        }
-    }
-}
-
-impl Call<u32> {
-    fn answer(self) -> u32
-        ensures { AnswersCall binary32 self result }
-    {
-        match self {
-            Call::Asin(x) => exports::jamcurfew_asinf(x),
-            Call::Acos(x) => exports::jamcurfew_acosf(x),
-            Call::Atan(x) => exports::jamcurfew_atanf(x),
-            Call::Atan2(y, x) => exports::jamcurfew_atan2f(y, x),
-            Call::Sqrt(x) => exports::jamcurfew_sqrtf(x),
-        }
+// The answer at the width `W`.
+fn answer_at<W: AsinHelper + Atan2Helper + SqrtHelper>(call: Call<W::Int>) -> W::Int
+    ensures { AnswersCall W.Int.Int.nat W.Width.fmt call result }
+{
+    match call {
+        Call::Asin(x) => exports::asin::<W>(x),
+        Call::Acos(x) => exports::acos::<W>(x),
+        Call::Atan(x) => exports::atan::<W>(x),
+        Call::Atan2(y, x) => exports::atan2::<W>(y, x),
+        Call::Sqrt(x) => exports::sqrt::<W>(x),
     }
 }
 
 #[derive(Clone, Copy)]
 pub enum Question {
-    Double(Call<u64>),
-    Single(Call<u32>),
+    Wide(Call<u64>),
+    Narrow(Call<u32>),
 }
 
 impl Question {
@@ -70,8 +56,8 @@ impl Question {
         ensures { AnswerTo self result }
     {
         match self {
-            Question::Double(call) => call.answer(),
-            Question::Single(call) => u64::from(call.answer()),
+            Question::Wide(call) => answer_at::<f64>(call),
+            Question::Narrow(call) => u64::from(answer_at::<f32>(call)),
         }
     }
 
@@ -80,13 +66,13 @@ impl Question {
         ensures { result ≡ function_of self }
     {
         match self {
-            Question::Double(call) => Function {
+            Question::Wide(call) => Function {
                 kind: call.kind(),
-                precision: Precision::Double,
+                precision: Precision::Wide,
             },
-            Question::Single(call) => Function {
+            Question::Narrow(call) => Function {
                 kind: call.kind(),
-                precision: Precision::Single,
+                precision: Precision::Narrow,
             },
         }
     }
