@@ -1,5 +1,6 @@
 // Arctangent of y/x.
 ghost use Rattle.std.specs.Prelude.{◌≡◌, ◌+◌, nat_lt};
+ghost use Rattle.std.specs.Float.{is_sign_negative};
 ghost use Rattle.anglelaws.specs.AnnexF.{Atan2Values};
 ghost use Rattle.anglelaws.specs.Atan2 as Atan2;
 
@@ -42,8 +43,8 @@ struct Quadrant {
 
 impl Quadrant {
     fn of<W: Width>(y: &Number<W>, x: &Number<W>) -> Quadrant
-        ensures y { result.y_negative ≡ y.now.negative }
-        ensures x { result.x_negative ≡ x.now.negative }
+        ensures y { result.y_negative ≡ is_sign_negative (W.Width.val y.now.value) }
+        ensures x { result.x_negative ≡ is_sign_negative (W.Width.val x.now.value) }
     {
         Quadrant {
             y_negative: y.negative,
