@@ -102,7 +102,7 @@ impl SqrtHelper for f64 {
     }
 
     fn widened(r_u0: u32) -> u64 {
-        (r_u0 as u64) << 32
+        u64::from(r_u0) << 32
     }
 }
 
@@ -119,7 +119,7 @@ fn first_guess<F: SqrtHelper>(ix: F::Int) -> F::ISet2
     ensures { F.ISet2.Int.nat result ≡ slice_index guesses (F.Int.Int.nat ix / 2 ^ (F.Layout.shape.sig - 6) % 128) * 2 ^ (F.ISet2.Int.BITS - 16) }
 {
     let i = ix.shr(F::SIG_BITS - 6).low_u32() % 128;
-    F::ISet2::from_u32(entry(i) as u32).shl(F::ISet2::BITS - 16)
+    F::ISet2::from_u32(u32::from(entry(i))).shl(F::ISet2::BITS - 16)
 }
 
 // What is kept of the root after both sets of rounds.

@@ -72,7 +72,7 @@ impl HInt for u32 {
     ghost mulh = { exact (2 ^ 30) };
 
     fn wmulh(self, other: u32) -> u32 {
-        ((self as u64 * other as u64) >> 32) as u32
+        ((u64::from(self) * u64::from(other)) >> 32) as u32
     }
 }
 

@@ -24,7 +24,7 @@ impl Int for u64 {
     ghost cmps = { Prim.search rules };
 
     fn from_u32(x: u32) -> u64 {
-        x as u64
+        u64::from(x)
     }
 
     fn low_u32(self) -> u32 {
