@@ -1,12 +1,18 @@
-use Rattle.angle.proofs.Rows.{zeros_told, infinities_told, sine_told, cosine_told, large_told, upright_told}
+use Rattle.std.proofs.Common.{refl, ap, ◌∙◌, ap₂}
+use lib.Ieee.{binary32, binary64, of_bits, to_bits}
+use Rattle.anglelaws.specs.Atan.{atan}
+use Rattle.anglelaws.specs.Atan2.{atan2}
+use Rattle.anglelaws.specs.Arcs.{asin, acos}
+use Rattle.angle.proofs.Rows.{told, opposite_zeros, opposite_infinities, sine_of_one, cosine_of_one, narrow_large, narrow_upright}
 use Rattle.angle.proofs.known.known_angles.Goals as goal
 
 pub returns : goal.returns
+unfolding to_bits of_bits
 returns c =
-    let a = zeros_told _ _ _ _ c.from_pattern.ensures c.from_pattern-2.ensures c.atan2.ensures.value c.answer_is.ensures in
-    let b = infinities_told _ _ _ _ c.from_pattern-3.ensures c.from_pattern-4.ensures c.atan2-2.ensures.value c.answer_is-2.ensures in
-    let d = sine_told _ _ _ c.from_pattern-5.ensures c.asin.ensures.value c.answer_is-3.ensures in
-    let e = cosine_told _ _ _ c.from_pattern-6.ensures c.acos.ensures.value c.answer_is-4.ensures in
-    let h = large_told _ _ _ c.from_pattern-7.ensures c.atanf.ensures.value c.answer_is-5.ensures in
-    let i = upright_told _ _ _ _ c.from_pattern-8.ensures c.from_pattern-9.ensures c.atan2f.ensures.value c.answer_is-6.ensures in
+    let a = told binary64 _ _ _ _ c.answer_is.ensures (c.atan2.ensures.value ∙ ap₂ (atan2 binary64) c.from_pattern.ensures c.from_pattern-2.ensures) opposite_zeros refl in
+    let b = told binary64 _ _ _ _ c.answer_is-2.ensures (c.atan2-2.ensures.value ∙ ap₂ (atan2 binary64) c.from_pattern-3.ensures c.from_pattern-4.ensures) opposite_infinities refl in
+    let d = told binary64 _ _ _ _ c.answer_is-3.ensures (c.asin.ensures.value ∙ ap (asin binary64) c.from_pattern-5.ensures) sine_of_one refl in
+    let e = told binary64 _ _ _ _ c.answer_is-4.ensures (c.acos.ensures.value ∙ ap (acos binary64) c.from_pattern-6.ensures) cosine_of_one refl in
+    let h = told binary32 _ _ _ _ c.answer_is-5.ensures (c.atanf.ensures.value ∙ ap (atan binary32) c.from_pattern-7.ensures) narrow_large refl in
+    let i = told binary32 _ _ _ _ c.answer_is-6.ensures (c.atan2f.ensures.value ∙ ap₂ (atan2 binary32) c.from_pattern-8.ensures c.from_pattern-9.ensures) narrow_upright refl in
     simp (a, b, d, e, h, i)
