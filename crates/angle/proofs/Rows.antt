@@ -1,5 +1,5 @@
 -- The known answers: the roots by the roots' own rows, the angles by computing them.
-use Rattle.std.proofs.Common.{◌≡◌, ℕ, Bool, true, eqb, sym, refl, ap, ◌∙◌, ap₂}
+use Rattle.std.proofs.Common.{◌≡◌, ℕ, Bool, true, eqb, sym, refl, ap, ◌∙◌}
 use lib.Ieee.{Float, Format, binary32, binary64, is_nan, of_bits, to_bits, mul, div}
 use lib.Ieee.Bits.{of_bits-fits}
 use Rattle.std.specs.Float.{sqrt, is_sign_negative}

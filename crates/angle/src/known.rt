@@ -25,19 +25,20 @@ fn answer_is<W: Width>(x: W, known: W::Int) -> bool
 fn known_angles() -> bool
     ensures { result ≡ true }
 {
-    answer_is(
-        atan2(f64::from_pattern(0x0000_0000_0000_0000), f64::from_pattern(0x8000_0000_0000_0000)),
-        0x4009_21fb_5444_2d18,
-    ) & answer_is(
-        atan2(f64::from_pattern(0x7ff0_0000_0000_0000), f64::from_pattern(0xfff0_0000_0000_0000)),
-        0x4002_d97c_7f33_21d2,
-    ) & answer_is(asin(f64::from_pattern(0x3ff0_0000_0000_0000)), 0x3ff9_21fb_5444_2d18)
-        & answer_is(acos(f64::from_pattern(0x3ff0_0000_0000_0000)), 0x0000_0000_0000_0000)
-        & answer_is(atanf(f32::from_pattern(0x4c80_0000)), 0x3fc9_0fda)
-        & answer_is(
-            atan2f(f32::from_pattern(0x3f80_0000), f32::from_pattern(0x0000_0000)),
-            0x3fc9_0fdb,
-        )
+    let zero = f64::from_pattern(0x0000_0000_0000_0000);
+    let minus_zero = f64::from_pattern(0x8000_0000_0000_0000);
+    let infinity = f64::from_pattern(0x7ff0_0000_0000_0000);
+    let minus_infinity = f64::from_pattern(0xfff0_0000_0000_0000);
+    let one = f64::from_pattern(0x3ff0_0000_0000_0000);
+    let narrow_large = f32::from_pattern(0x4c80_0000);
+    let narrow_one = f32::from_pattern(0x3f80_0000);
+    let narrow_zero = f32::from_pattern(0x0000_0000);
+    answer_is(atan2(zero, minus_zero), 0x4009_21fb_5444_2d18)
+        & answer_is(atan2(infinity, minus_infinity), 0x4002_d97c_7f33_21d2)
+        & answer_is(asin(one), 0x3ff9_21fb_5444_2d18)
+        & answer_is(acos(one), 0x0000_0000_0000_0000)
+        & answer_is(atanf(narrow_large), 0x3fc9_0fda)
+        & answer_is(atan2f(narrow_one, narrow_zero), 0x3fc9_0fdb)
 }
 
 /// Asks for the known answers, the roots from the ported unit. That each comes as stated is proved,

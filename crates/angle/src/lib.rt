@@ -1,5 +1,5 @@
 // Angles: libm's inverse trigonometry. Each answer is the float that libm's branches and operations
-// give.
+// give. `acos` to `atanf`, and the functions in them, carry libm's names over the generic ones.
 #![tactic(auto)]
 
 pub mod acos;

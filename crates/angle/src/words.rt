@@ -41,11 +41,7 @@ fn high_word<W: Width>(bits: W::Int) -> u32
 fn low_word<W: Width>(bits: W::Int) -> u32
     ensures { result ≡ W.Int.Int.nat bits % weight W.Width.fmt }
 {
-    if W::BITS > 32 {
-        bits.low_u32()
-    } else {
-        0
-    }
+    if W::BITS > 32 { bits.low_u32() } else { 0 }
 }
 
 /// A number by its words, or `None` for NaN, whose pattern is never read.

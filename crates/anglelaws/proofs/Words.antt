@@ -1,8 +1,7 @@
 -- What code reads of a pattern is the number's words.
-use Rattle.std.proofs.Common.{◌≡◌, ℕ, ◌/◌, ◌%◌, ◌^◌, ◌<◌, ◌≤◌, true, not, T, eqb, leb, sym, ap, ◌∙◌, subst, arith}
+use Rattle.std.proofs.Common.{◌≡◌, ℕ, ◌/◌, ◌%◌, ◌^◌, ◌<◌, true, not, T, eqb, leb, sym, ap, ◌∙◌, subst, arith}
 use lib.Bits.{bit_and}
 use lib.Ieee.{Float, Format, binary32, binary64, nan, fits, is_nan, top}
-use lib.Ieee.Bits.{of_bits-fits}
 use Rattle.std.specs.Float.{is_sign_negative}
 use Rattle.std.proofs.lemmas.Nat.{and_mask}
 use Rattle.std.proofs.lemmas.Bool.{le-leb, lt-leb, ne_eqb, eq-eqb}
@@ -40,7 +39,7 @@ pub low_is : (f : Format) (v : Float) (n lx : ℕ) → PatternOf f v n → lx �
 unfolding low_word
 low_is f v n lx p i = i ∙ ap (λ m. m % weight f) p.pattern
 
--- NaN, and what has a pattern, fits the format
+-- NaN, as code learns it
 pub nan_is : (v : Float) → v ≡ nan → is_nan v ≡ true
 unfolding is_nan
 nan_is v e = ap is_nan e
@@ -48,6 +47,3 @@ nan_is v e = ap is_nan e
 pub nan_fits : (f : Format) (v : Float) → v ≡ nan → T (fits f v)
 unfolding fits
 nan_fits f v e = subst (λ x. T (fits f x)) (sym e) tt
-
-pub pattern_fits : (f : Format) (v : Float) (n : ℕ) → PatternOf f v n → T (fits f v)
-pattern_fits f v n p = subst (λ x. T (fits f x)) p.value (of_bits-fits f n)

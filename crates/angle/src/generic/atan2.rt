@@ -115,11 +115,7 @@ fn past_cut<W: Atan2Helper>(small: u32, large: u32) -> bool
 fn acute<W: Atan2Helper>(y: W, x: W, none: bool) -> W
     ensures { W.Width.val result ≡ Atan2.acute W.Width.fmt (W.Width.val y) (W.Width.val x) none }
 {
-    if none {
-        W::ZERO
-    } else {
-        atan((y / x).fabs())
-    }
+    if none { W::ZERO } else { atan((y / x).fabs()) }
 }
 
 // Both are finite, and neither is zero; or y is infinite.
