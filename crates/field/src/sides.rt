@@ -1,5 +1,5 @@
 // The sides of a field.
-ghost use Rattle.std.specs.Prelude.{◌≡◌, ℕ, ◌+◌, ◌*◌, ◌^◌, ◌<◌, ◌≤◌, Some, None, MatchResult};
+ghost use Rattle.std.specs.Prelude.{◌≡◌, ◌+◌, ◌*◌, ◌^◌, ◌<◌, ◌≤◌, Some, None, MatchResult};
 ghost use Rattle.field.specs.Field.{longest, fault_of};
 
 use crate::refusal::Refusal;
@@ -29,6 +29,7 @@ impl Sides {
         Ok(Sides { length, breadth })
     }
 
+    // A getter for each side, since the sides must not be written.
     pub fn length(self) -> u64
         ensures value { result ≡ self.length }
         ensures bound { (0 < result) × (result ≤ longest) }

@@ -1,7 +1,7 @@
 // A value with the status that IEEE 754 gives it.
 ghost use Rattle.std.specs.Prelude.{◌≡◌};
 
-/// A value combined with a status.
+/// A value combined with a status. It is no `Result`, as in the source: there is a value in each case.
 #[derive(Clone, Copy)]
 pub struct FpResult<T> {
     pub val: T,

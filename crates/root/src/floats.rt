@@ -1,6 +1,4 @@
 // From the root of a pattern to the root of a float.
-ghost use Rattle.std.specs.Prelude.{◌≡◌, ◌^◌, ◌<◌};
-ghost use Rattle.width.specs.Shape.{shape_of, width as width_of};
 ghost use Rattle.rootlaws.specs.Roots.{RootBits, NearestRoot};
 
 use width::Width;

@@ -1,5 +1,5 @@
 // Goldschmidt's iteration: the reciprocal root and the root of a word, together.
-ghost use Rattle.std.specs.Prelude.{◌≡◌, ℕ, ◌+◌, ◌-◌, ◌*◌, ◌/◌, ◌%◌, ◌^◌, ◌<◌, Bool, if◌then◌else◌};
+ghost use Rattle.std.specs.Prelude.{◌≡◌, ◌-◌, ◌*◌, ◌/◌, ◌%◌, ◌^◌, ◌<◌, if◌then◌else◌};
 ghost use Rattle.rootlaws.specs.Gold.{doubles, gold};
 
 use width::HInt;
@@ -18,7 +18,7 @@ fn doubled<I: HInt>(s_u2: I, i: u32, count: u32, final_set: bool) -> I
 
 /// Performs `count` iterations on the reciprocal root `r_u0` and the word `s_u2`, and hands back
 /// both. The root has one bit less after the final set. There what is handed back as the
-/// reciprocal is not one.
+/// reciprocal is not one. The flag is the source's.
 pub fn goldschmidt<I: HInt>(mut r_u0: I, mut s_u2: I, count: u32, final_set: bool) -> (I, I)
     ensures rec { I.Int.nat result.0 ≡ (gold (2 ^ (I.Int.BITS - 2)) I.HInt.mulh count final_set (I.Int.nat r_u0) (I.Int.nat s_u2)).rec }
     ensures root { I.Int.nat result.1 ≡ (gold (2 ^ (I.Int.BITS - 2)) I.HInt.mulh count final_set (I.Int.nat r_u0) (I.Int.nat s_u2)).root }

@@ -1,7 +1,7 @@
 // The root by longhand: one binary digit at a time.
-ghost use Rattle.std.specs.Prelude.{◌≡◌, ℕ, suc, ◌+◌, ◌-◌, ◌*◌, ◌/◌, ◌%◌, ◌^◌, ◌<◌, ◌≤◌, from_bits};
-ghost use Rattle.width.specs.Shape.{Shape, shape_of, infinity, width as width_of};
-ghost use Rattle.rootlaws.specs.Longhand.{Held, Exact};
+ghost use Rattle.std.specs.Prelude.{◌≡◌, ℕ, suc, ◌+◌, ◌-◌, ◌*◌, ◌/◌, ◌%◌, ◌^◌, ◌<◌, ◌≤◌};
+ghost use Rattle.width.specs.Shape.{infinity};
+ghost use Rattle.rootlaws.specs.Longhand.{Held};
 ghost use Rattle.rootlaws.specs.Roots.{RootBits, NearestRoot};
 ghost use Rattle.rootlaws.specs.Split.{sig_of, exp_of, word_of, lift};
 ghost use Rattle.rootlaws.specs.Whole.{Nearest};

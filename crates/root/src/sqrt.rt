@@ -3,10 +3,10 @@
 // It works around `m_u2`, a fixed-point number with two whole bits in [1, 4), such that the reading
 // is a power of 4 times it. `r_u0` is a number below 1 that comes near to `1 / sqrt(m_u2)`, and
 // `s_u2` comes near to `sqrt(m_u2)`.
-ghost use Rattle.std.specs.Prelude.{◌≡◌, ℕ, suc, ◌+◌, ◌-◌, ◌*◌, ◌/◌, ◌%◌, ◌^◌, ◌<◌, ◌≤◌, true, false, not, ◌&&◌, from_bits, nat_le, nat_lt, slice_index};
+ghost use Rattle.std.specs.Prelude.{◌≡◌, ℕ, suc, ◌+◌, ◌-◌, ◌*◌, ◌/◌, ◌%◌, ◌^◌, ◌<◌, true, false, not, slice_index};
 ghost use Rattle.std.specs.Float.{binary32, binary64};
-ghost use Rattle.width.specs.Shape.{Shape, shape_of, bias, infinity, width as width_of};
-ghost use Rattle.rootlaws.specs.Plan.{Plan, Keeps, kept_by};
+ghost use Rattle.width.specs.Shape.{bias, infinity};
+ghost use Rattle.rootlaws.specs.Plan.{Keeps};
 ghost use Rattle.rootlaws.specs.Roots.{RootBits, NearestRoot};
 ghost use Rattle.rootlaws.specs.Split.{Stored, sig_of, exp_of, word_of, word_at, lift};
 ghost use Rattle.rootlaws.specs.Table.{guesses};
@@ -51,6 +51,7 @@ pub trait SqrtHelper: Layout {
 
     ghost FINAL_ROUNDS: { ℕ };
 
+    // This one and the next cut and shift, which From and TryFrom do not.
     /// The upper bits of a word.
     fn upper(m_u2: Self::Int) -> Self::ISet2
         ensures { Self.ISet2.Int.nat result ≡ Self.Int.Int.nat m_u2 / 2 ^ (Self.Int.Int.BITS - Self.ISet2.Int.BITS) };
@@ -198,6 +199,8 @@ struct Positive<I> {
     top: u32,
 }
 
+// The number `b` that the pattern stands for is the caller's, so no field of `Positive` names it.
+//
 // The exponent is kept in place where the pattern fits into 32 bits, which saves the shifts.
 fn reduced<F: SqrtHelper>(x: Positive<F::Int>) -> (F::Int, F::Int)
     ensures { (b : ℕ) → Stored F.Layout.shape b (F.Int.Int.nat x.ix) x.top → (F.Int.Int.nat result.0 ≡ word_of F.Layout.shape (exp_of F.Layout.shape b) (sig_of F.Layout.shape b)) × (F.Int.Int.nat result.0 ≡ word_at F.Layout.shape (F.Int.Int.nat x.ix)) × (F.Int.Int.nat result.1 ≡ exp_of F.Layout.shape b / 2 * 2 ^ F.Layout.shape.sig) }
@@ -285,6 +288,8 @@ pub fn square_root<W: Width + SqrtHelper>(x: W) -> W
 {
     float_root(x, |ix| sqrt_round::<W>(ix).val)
 }
+
+// The next two keep libm's names.
 
 /// The square root of `x` (f64).
 pub fn sqrt(x: f64) -> f64

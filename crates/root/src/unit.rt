@@ -14,6 +14,7 @@ use width::Width;
 pub trait RootUnit {
     ghost count: { Self → ℕ };
 
+    // Two methods and not one over the width: a unit may know these two formats alone.
     fn wide_root(&mut self, v: f64) -> f64
         ensures nearest { NearestRoot binary64 v result }
         ensures counted { count self.new ≡ raised (count self.old) };

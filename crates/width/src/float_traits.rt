@@ -1,5 +1,5 @@
 // The source's `Float` as two interfaces: what a pattern's fields are, and arithmetic.
-ghost use Rattle.std.specs.Prelude.{◌≡◌, ℕ, suc, ◌+◌, ◌-◌, ◌*◌, ◌/◌, ◌%◌, ◌^◌, ◌<◌, MatchOption, Float, ◌==◌, nat_lt, to_bits};
+ghost use Rattle.std.specs.Prelude.{◌≡◌, ℕ, ◌%◌, ◌<◌, MatchOption, Float, ◌==◌, nat_lt, to_bits};
 ghost use Rattle.std.specs.Float.Ieee as Ieee;
 ghost use Rattle.std.specs.Float.{Format};
 ghost use Rattle.std.specs.Ordering.{float_partial_cmp};

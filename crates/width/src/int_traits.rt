@@ -13,6 +13,7 @@ pub trait Int: Copy + PartialOrd {
 
     ghost nat: { Self → ℕ };
 
+    // This one and the next cut, which From and TryFrom do not.
     fn from_u32(x: u32) -> Self
         ensures { nat result ≡ x % 2 ^ BITS };
 

@@ -1,7 +1,8 @@
 // The narrow width: `u32` and `f32`.
-ghost use Rattle.std.specs.Prelude.{◌≡◌, ℕ, ◌^◌, MatchOption};
-ghost use Rattle.std.specs.Float.{binary32, nan};
-ghost use Rattle.width.specs.Pattern.{PatternOf};
+// `wide.rt` has the same impls, line by line, in its types' constants and std's functions: no impl may
+// be written by a macro, and default bodies over std's operators would need more laws than they save.
+ghost use Rattle.std.specs.Prelude.{◌^◌};
+ghost use Rattle.std.specs.Float.{binary32};
 ghost use Rattle.width.specs.Product.{exact};
 ghost use Rattle.width.specs.Shape.{shape_of, format_sound};
 ghost use Rattle.std.proofs.Common.{rules};
