@@ -3,7 +3,11 @@ ghost use Rattle.std.specs.Prelude.{◌≡◌, ◌%◌, ◌^◌, ◌<◌, ◌≤
 ghost use Rattle.std.specs.Float.{round_to_format, binary32, binary64};
 
 use std::num::nearest_f64_to_f32_with_nan;
+use std::ops::Range;
 use width::Width;
+
+/// The patterns of the sizes that stay normal and finite, from 2^-126 to below 2^127.
+const STAY_NORMAL: Range<u64> = 0x3810_0000_0000_0000..0x47e0_0000_0000_0000;
 
 // Of a wide pattern, for sizes from 2^-126 to below 2^127: rounded, they stay normal and finite.
 #[tactic(auto, using(anglelaws::proofs::Narrowed::nearest_narrow, anglelaws::proofs::Narrowed::narrow_number))]
@@ -23,11 +27,8 @@ fn narrowed_bits(bits: u64) -> f32
 pub fn narrowed(x: f64) -> f32
     ensures { result ≡ round_to_format binary32 x }
 {
-    if let Some(bits) = x.pattern() {
-        let size = bits % 0x8000_0000_0000_0000;
-        if 0x3810_0000_0000_0000 <= size && size < 0x47e0_0000_0000_0000 {
-            return narrowed_bits(bits);
-        }
+    match x.pattern() {
+        Some(bits) if STAY_NORMAL.contains(&(bits % 0x8000_0000_0000_0000)) => narrowed_bits(bits),
+        _ => nearest_f64_to_f32_with_nan(x),
     }
-    nearest_f64_to_f32_with_nan(x)
 }
