@@ -36,7 +36,11 @@ impl ArcHelper for f64 {
         tiny: 0x3c60_0000,
     };
 
+    const LOW_BITS: u32 = 32; /* the low 4 bytes */
+
     ghost PIO2 = { record { pio2_hi = Arcs.pio2_hi binary64; pio2_lo = Arcs.pio2_lo binary64; tiny = Arcs.tiny binary64 } };
+
+    ghost LOW_BITS = { 32 };
 
     ghost pio2_hi = { Prim.search rules };
 
@@ -51,14 +55,7 @@ impl ArcHelper for f64 {
         p / q
     }
 
-    #[tactic(auto, using(anglelaws::proofs::Roots::nan_high, anglelaws::proofs::Roots::high_is, anglelaws::proofs::Roots::high_number))]
-    fn high_part(self) -> f64 {
-        if self.is_nan() {
-            return self;
-        }
-        // The low 4 bytes are set to zero.
-        f64::from_bits(self.to_bits() >> 32 << 32)
-    }
+    ghost low_bits = { Prim.search rules };
 }
 
 /// Arccosine of `x`, in radians, from 0 to pi.

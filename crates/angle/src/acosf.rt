@@ -24,7 +24,11 @@ impl ArcHelper for f32 {
         tiny: 0x3280_0000,
     };
 
+    const LOW_BITS: u32 = 12;
+
     ghost PIO2 = { record { pio2_hi = Arcs.pio2_hi binary32; pio2_lo = Arcs.pio2_lo binary32; tiny = Arcs.tiny binary32 } };
+
+    ghost LOW_BITS = { 12 };
 
     ghost pio2_hi = { Prim.search rules };
 
@@ -39,14 +43,7 @@ impl ArcHelper for f32 {
         p / q
     }
 
-    #[tactic(auto, using(anglelaws::proofs::Roots::nan_high, anglelaws::proofs::Roots::high_is, anglelaws::proofs::Roots::high_number))]
-    fn high_part(self) -> f32 {
-        if self.is_nan() {
-            return self;
-        }
-        // The low 12 bits are set to zero.
-        f32::from_bits(self.to_bits() >> 12 << 12)
-    }
+    ghost low_bits = { Prim.search rules };
 }
 
 /// Arccosine of `x`, in radians, from 0 to pi.

@@ -1,5 +1,5 @@
 // Arccosine.
-ghost use Rattle.std.specs.Prelude.{◌≡◌, T, if◌then◌else◌};
+ghost use Rattle.std.specs.Prelude.{◌≡◌, ℕ, T, if◌then◌else◌};
 ghost use Rattle.std.specs.Float.Ieee.{fits};
 ghost use Rattle.std.specs.Float.{sqrt};
 ghost use Rattle.root.specs.Count.{raised};
@@ -9,7 +9,7 @@ ghost use Rattle.anglelaws.specs.Arcs as Arcs;
 use crate::numbers::Numerals;
 use crate::words::{Number, read};
 use root::unit::{Ported, RootUnit, Rooted};
-use width::Width;
+use width::{Int, Width};
 
 /// The constants of a width: pi/2, what that lacks, and up to which top word pi/2 is the answer.
 #[derive(Clone, Copy)]
@@ -25,21 +25,35 @@ pub trait ArcHelper: Numerals + Rooted {
 
     const PIO2: QuarterTurn<Self>;
 
+    /// How many low bits of a root's pattern its high part has clear.
+    const LOW_BITS: u32;
+
     ghost PIO2: { QuarterTurn Self };
+
+    ghost LOW_BITS: { ℕ };
 
     /// The quotient of polynomials, R(x^2).
     fn r(self) -> Self
         ensures { Self.Width.val result ≡ Arcs.ratio Self.Width.fmt (Self.Width.val self) };
 
     /// The high part of a root: the low bits of its pattern cleared.
-    fn high_part(self) -> Self
-        ensures { Self.Width.val result ≡ Arcs.high_part Self.Width.fmt (Self.Width.val self) };
+    #[tactic(auto, using(anglelaws::proofs::Roots::nan_high, anglelaws::proofs::Roots::high_is))]
+    final fn high_part(self) -> Self
+        ensures { Self.Width.val result ≡ Arcs.high_part Self.Width.fmt (Self.Width.val self) }
+    {
+        match self.pattern() {
+            None => self,
+            Some(bits) => Self::from_pattern(bits.shr(Self::LOW_BITS).shl(Self::LOW_BITS)),
+        }
+    }
 
     ghost pio2_hi: { Self.Width.val PIO2.pio2_hi ≡ Arcs.pio2_hi Self.Width.fmt };
 
     ghost pio2_lo: { Self.Width.val PIO2.pio2_lo ≡ Arcs.pio2_lo Self.Width.fmt };
 
     ghost tiny: { PIO2.tiny ≡ Arcs.tiny Self.Width.fmt };
+
+    ghost low_bits: { LOW_BITS ≡ Arcs.low_bits Self.Width.fmt };
 }
 
 // The root that the definitions name, from a root unit.
