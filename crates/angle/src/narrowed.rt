@@ -23,7 +23,7 @@ fn narrowed_bits(bits: u64) -> f32
     f32::from_bits(((bits >> 63) * 0x8000_0000 + narrow) as u32)
 }
 
-/// The nearest narrow float, ties to even.
+/// The nearest narrow float, ties to even. No `From`, since it rounds.
 pub fn narrowed(x: f64) -> f32
     ensures { result ≡ round_to_format binary32 x }
 {

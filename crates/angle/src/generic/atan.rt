@@ -38,7 +38,8 @@ pub trait AtanHelper: Numerals + Fabs {
 
     ghost CUTS: { Cuts };
 
-    // The tables stay behind methods: generic code has no constant array of `Self`.
+    // Two tables, read by an index, as in the source; behind methods, since generic code cannot index an
+    // array of `Self`.
 
     /// The arctangent of a centre, rounded.
     fn atan_hi(centre: Centre) -> Self

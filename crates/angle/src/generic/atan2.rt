@@ -111,13 +111,6 @@ fn past_cut<W: Atan2Helper>(small: u32, large: u32) -> bool
     u64::from(small) + u64::from(W::PI.cut) < u64::from(large)
 }
 
-// The angle of the sizes, atan(|y/x|) without spurious underflow, or 0.
-fn acute<W: Atan2Helper>(y: W, x: W, none: bool) -> W
-    ensures { W.Width.val result ≡ Atan2.acute W.Width.fmt (W.Width.val y) (W.Width.val x) none }
-{
-    if none { W::ZERO } else { atan((y / x).fabs()) }
-}
-
 // Both are finite, and neither is zero; or y is infinite.
 fn quotient<W: Atan2Helper>(y: Number<W>, x: Number<W>) -> W
     ensures { W.Width.val result ≡ Atan2.quotient W.Width.fmt (W.Width.val y.value) (W.Width.val x.value) }
@@ -126,9 +119,13 @@ fn quotient<W: Atan2Helper>(y: Number<W>, x: Number<W>) -> W
     if past_cut::<W>(x.ix, y.ix) || y.ix == W::INFINITY_WORD {
         return quadrant.upright();
     }
-    /* |y/x| is small, x < 0 */
-    let none = x.negative && past_cut::<W>(y.ix, x.ix);
-    quadrant.placed(acute(y.value, x.value, none))
+    // The angle of the sizes, atan(|y/x|) without spurious underflow.
+    let z = if x.negative && past_cut::<W>(y.ix, x.ix) {
+        W::ZERO /* |y/x| is small, x < 0 */
+    } else {
+        atan((y.value / x.value).fabs())
+    };
+    quadrant.placed(z)
 }
 
 // Neither is NaN.
