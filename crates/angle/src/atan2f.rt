@@ -1,9 +1,11 @@
 // Arctangent of y/x (f32).
-ghost use Rattle.std.specs.Prelude.{◌≡◌};
+ghost use Rattle.std.specs.Prelude.{◌≡◌, from_bits};
 ghost use Rattle.std.specs.Float.{binary32};
+ghost use Rattle.std.specs.Float.Ieee.{neg};
 ghost use Rattle.std.proofs.Common.{rules};
 ghost use Rattle.anglelaws.specs.AnnexF.{Atan2Values};
 ghost use Rattle.anglelaws.specs.Atan2 as Atan2;
+ghost use Rattle.anglelaws.proofs.Signs.{narrow_pi_lo};
 
 use crate::generic;
 use crate::generic::atan2::{Atan2Helper, HalfTurn};
@@ -15,11 +17,11 @@ impl Atan2Helper for f32 {
         cut: 26 << 23,
     };
 
-    ghost PI = { record { pi = Atan2.pi binary32; pi_lo = Atan2.pi_lo binary32; cut = Atan2.cut binary32 } };
+    ghost PI = { record { pi = Atan2.pi binary32; pi_lo = neg (from_bits binary32 0x33bbbd2e); cut = Atan2.cut binary32 } };
 
     ghost pi = { Prim.search rules };
 
-    ghost pi_lo = { Prim.search rules };
+    ghost pi_lo = { narrow_pi_lo };
 
     ghost cut = { Prim.search rules };
 }

@@ -1,9 +1,10 @@
 // A number by the words of its pattern.
-ghost use Rattle.std.specs.Prelude.{◌≡◌, T, ◌%◌, ◌/◌, ◌^◌, true, false, ◌&&◌, MatchOption, ◌==◌, is_nan};
+ghost use Rattle.std.specs.Prelude.{◌≡◌, T, ◌%◌, ◌/◌, ◌^◌, true, false, not, ◌&&◌, ◌==◌, MatchOption, is_nan};
 ghost use Rattle.std.specs.Float.{is_sign_negative};
 ghost use Rattle.std.specs.Float.Ieee.{fits};
-ghost use Rattle.anglelaws.specs.Words.{top_word, low_word, weight};
+ghost use Rattle.anglelaws.specs.Words.{top_word, low_word, is_size, one_word, infinity_word, weight};
 
+use crate::numbers::Numerals;
 use width::{Int, Layout, Width};
 
 /// A number, which is no NaN, with what the branches of an angle read of it: its sign bit, its top
@@ -24,9 +25,24 @@ pub struct Number<W: Width> {
 impl<W: Width> Number<W> {
     /// Whether the size is the number with this top word and nothing below it.
     pub fn size_is(&self, top: u32) -> bool
-        ensures { result ≡ (self.now.ix == top && self.now.lx == 0) }
+        ensures { result ≡ is_size W.Width.fmt top (W.Width.val self.now.value) }
     {
         self.ix == top && self.lx == 0
+    }
+}
+
+impl<W: Numerals> Number<W> {
+    /// Whether it is 1.
+    pub fn is_one(&self) -> bool
+        ensures { result ≡ (not (is_sign_negative (W.Width.val self.now.value)) && is_size W.Width.fmt (one_word W.Width.fmt) (W.Width.val self.now.value)) }
+    {
+        !self.negative && self.size_is(W::ONE_WORD)
+    }
+
+    pub fn is_infinite(&self) -> bool
+        ensures { result ≡ (top_word W.Width.fmt (W.Width.val self.now.value) == infinity_word W.Width.fmt) }
+    {
+        self.ix == W::INFINITY_WORD
     }
 }
 
@@ -45,7 +61,7 @@ fn low_word<W: Width>(bits: W::Int) -> u32
 }
 
 /// A number by its words, or `None` for NaN, whose pattern is never read.
-#[tactic(auto, using(anglelaws::proofs::Words::nan_is, anglelaws::proofs::Words::nan_fits))]
+#[tactic(auto, using(anglelaws::proofs::Words::nan_is, anglelaws::proofs::Words::nan_fits, anglelaws::proofs::Words::sign_is, anglelaws::proofs::Words::top_is, anglelaws::proofs::Words::low_is))]
 pub fn read<W: Width>(x: W) -> Option<Number<W>>
     ensures value { MatchOption result (is_nan (W.Width.val x) ≡ true) (λ n. n.value ≡ x) }
     ensures fits { T (fits W.Width.fmt (W.Width.val x)) }

@@ -1,6 +1,6 @@
 -- The sign bit: what it says, and what is left without it.
 use Rattle.std.proofs.Common.{◌≡◌, ℕ, zero, suc, ◌+◌, ◌/◌, ◌%◌, ◌<◌, Bool, true, false, cond, not, T, eqb, leb, sym, refl, ap, ◌∙◌, subst, ap₂, true≢false, mod-lt, mod-eq_of_lt, arith}
-use lib.Ieee.{Float, Format, binary32, binary64, nan, inf, fin, odd, prec, low, hid, ones, top, fits, is_nan, nan_bits, of_fields, of_bits, to_bits}
+use lib.Ieee.{neg, Float, Format, binary32, binary64, nan, inf, fin, odd, prec, low, hid, ones, top, fits, is_nan, nan_bits, of_fields, of_bits, to_bits}
 use lib.Ieee.Bits.{nan_bits_is}
 use Rattle.std.specs.Float.{is_sign_negative, float_with_sign}
 use Rattle.std.proofs.lemmas.Bool.{lt-leb}
@@ -8,6 +8,7 @@ use Rattle.rootlaws.proofs.Floats.{low_digits}
 use Rattle.width.specs.Pattern.{PatternOf}
 use Rattle.width.proofs.Patterns.{only_nan, pattern_of}
 use Rattle.anglelaws.specs.Formulas.{fabs}
+use Rattle.anglelaws.specs.Atan2.{pi_lo}
 
 odd_sign : (d : ℕ) (s : Bool) (q k l : ℕ) → is_sign_negative (odd d s q k l) ≡ s
 unfolding odd is_sign_negative
@@ -76,3 +77,8 @@ module _ (f : Format) (v : Float) (k : T (fits f v)) (n : is_nan v ≡ false) (m
 
   pub cleared_number : T (not (nan_bits f m))
   cleared_number = subst (λ b. T (not b)) (sym (nan_bits_is f m ∙ ap is_nan cleared_size ∙ size_number v ∙ n)) tt
+
+-- the narrow constant below zero, as code writes it
+pub narrow_pi_lo : neg (of_bits binary32 0x33bbbd2e) ≡ pi_lo binary32
+unfolding neg of_bits
+narrow_pi_lo = refl

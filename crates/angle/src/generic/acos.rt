@@ -59,7 +59,8 @@ pub trait ArcHelper: Numerals + Rooted {
 // The root that the definitions name, from a root unit.
 #[tactic(auto, using(rootlaws::proofs::Rounded::root_is))]
 pub(crate) fn root<W: Rooted, U: RootUnit>(unit: &mut U, z: W) -> W
-    ensures root { T (fits W.Width.fmt (W.Width.val z)) → W.Width.val result ≡ sqrt W.Width.fmt (W.Width.val z) }
+    requires { T (fits W.Width.fmt (W.Width.val z)) }
+    ensures root { W.Width.val result ≡ sqrt W.Width.fmt (W.Width.val z) }
     ensures counted { U.RootUnit.count unit.new ≡ raised (U.RootUnit.count unit.old) }
 {
     W::root_from(unit, z)
@@ -113,7 +114,6 @@ fn below_by_root<W: ArcHelper>(z: W, s: W) -> W
 }
 
 // Half the answer for x <= -0.5.
-#[tactic(auto, using(anglelaws::proofs::Roots::product_fits))]
 fn below<W: ArcHelper, U: RootUnit>(unit: &mut U, x: W) -> W
     ensures value { W.Width.val result ≡ Arcs.acos_below W.Width.fmt (Arcs.halved_sum W.Width.fmt (W.Width.val x)) (sqrt W.Width.fmt (Arcs.halved_sum W.Width.fmt (W.Width.val x))) }
     ensures counted { U.RootUnit.count unit.new ≡ raised (U.RootUnit.count unit.old) }
@@ -134,7 +134,6 @@ fn above_by_root<W: ArcHelper>(z: W, s: W) -> W
 }
 
 // Half the answer for x >= 0.5.
-#[tactic(auto, using(anglelaws::proofs::Roots::product_fits))]
 fn above<W: ArcHelper, U: RootUnit>(unit: &mut U, x: W) -> W
     ensures value { W.Width.val result ≡ Arcs.acos_above W.Width.fmt (Arcs.halved_rest W.Width.fmt (W.Width.val x)) (sqrt W.Width.fmt (Arcs.halved_rest W.Width.fmt (W.Width.val x))) }
     ensures counted { U.RootUnit.count unit.new ≡ raised (U.RootUnit.count unit.old) }

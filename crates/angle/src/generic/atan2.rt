@@ -116,7 +116,7 @@ fn quotient<W: Atan2Helper>(y: Number<W>, x: Number<W>) -> W
     ensures { W.Width.val result ≡ Atan2.quotient W.Width.fmt (W.Width.val y.value) (W.Width.val x.value) }
 {
     let quadrant = Quadrant::of(&y, &x);
-    if past_cut::<W>(x.ix, y.ix) || y.ix == W::INFINITY_WORD {
+    if past_cut::<W>(x.ix, y.ix) || y.is_infinite() {
         return quadrant.upright();
     }
     // The angle of the sizes, atan(|y/x|) without spurious underflow.
@@ -133,7 +133,7 @@ fn of_numbers<W: Atan2Helper>(y: Number<W>, x: Number<W>) -> W
     ensures { W.Width.val result ≡ Atan2.of_numbers W.Width.fmt (W.Width.val y.value) (W.Width.val x.value) }
 {
     let quadrant = Quadrant::of(&y, &x);
-    if !x.negative && x.size_is(W::ONE_WORD) {
+    if x.is_one() {
         return atan(y.value);
     }
     if y.size_is(0) {
@@ -142,8 +142,8 @@ fn of_numbers<W: Atan2Helper>(y: Number<W>, x: Number<W>) -> W
     if x.size_is(0) {
         return quadrant.upright();
     }
-    if x.ix == W::INFINITY_WORD {
-        if y.ix == W::INFINITY_WORD {
+    if x.is_infinite() {
+        if y.is_infinite() {
             return quadrant.diagonal();
         }
         return quadrant.along();
