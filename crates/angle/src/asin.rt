@@ -1,7 +1,7 @@
 // Arcsine (f64).
-ghost use Rattle.std.specs.Prelude.{◌≡◌, if◌then◌else◌};
+ghost use Rattle.std.specs.Prelude.{◌≡◌};
 ghost use Rattle.std.specs.Float.{binary64};
-ghost use Rattle.root.specs.Count.{raised};
+ghost use Rattle.root.specs.Count.{raised, raised_if};
 ghost use Rattle.anglelaws.specs.AnnexF.{AsinValues};
 ghost use Rattle.anglelaws.specs.Arcs as Arcs;
 
@@ -65,7 +65,7 @@ fn large<U: RootUnit>(unit: &mut U, x: Number<f64>) -> f64
 // The arcsine of what is no NaN.
 fn of_number<U: RootUnit>(unit: &mut U, x: Number<f64>) -> f64
     ensures value { result ≡ Arcs.asin binary64 x.value }
-    ensures counted { U.RootUnit.count unit.new ≡ (if Arcs.asks binary64 x.value then raised (U.RootUnit.count unit.old) else U.RootUnit.count unit.old) }
+    ensures counted { U.RootUnit.count unit.new ≡ raised_if (Arcs.asks binary64 x.value) (U.RootUnit.count unit.old) }
 {
     /* |x| >= 1 */
     if x.ix >= 0x3ff0_0000 {
@@ -96,7 +96,7 @@ impl AsinHelper for f64 {
 pub fn asin_by<U: RootUnit>(unit: &mut U, x: f64) -> f64
     ensures value { result ≡ Arcs.asin binary64 x }
     ensures special { AsinValues binary64 x result }
-    ensures counted { U.RootUnit.count unit.new ≡ (if Arcs.asks binary64 x then raised (U.RootUnit.count unit.old) else U.RootUnit.count unit.old) }
+    ensures counted { U.RootUnit.count unit.new ≡ raised_if (Arcs.asks binary64 x) (U.RootUnit.count unit.old) }
 {
     generic::asin::asin_by(unit, x)
 }

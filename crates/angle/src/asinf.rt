@@ -1,7 +1,7 @@
 // Arcsine (f32). The root and the last line are taken in f64, and rounded to f32 once.
-ghost use Rattle.std.specs.Prelude.{◌≡◌, if◌then◌else◌};
+ghost use Rattle.std.specs.Prelude.{◌≡◌};
 ghost use Rattle.std.specs.Float.{binary32};
-ghost use Rattle.root.specs.Count.{raised};
+ghost use Rattle.root.specs.Count.{raised, raised_if};
 ghost use Rattle.anglelaws.specs.AnnexF.{AsinValues};
 ghost use Rattle.anglelaws.specs.Arcs as Arcs;
 
@@ -49,7 +49,7 @@ fn large<U: RootUnit>(unit: &mut U, x: f32) -> f32
 // The arcsine of what is no NaN.
 fn of_number<U: RootUnit>(unit: &mut U, x: Number<f32>) -> f32
     ensures value { result ≡ Arcs.asin binary32 x.value }
-    ensures counted { U.RootUnit.count unit.new ≡ (if Arcs.asks binary32 x.value then raised (U.RootUnit.count unit.old) else U.RootUnit.count unit.old) }
+    ensures counted { U.RootUnit.count unit.new ≡ raised_if (Arcs.asks binary32 x.value) (U.RootUnit.count unit.old) }
 {
     /* |x| >= 1 */
     if x.ix >= 0x3f80_0000 {
@@ -80,7 +80,7 @@ impl AsinHelper for f32 {
 pub fn asinf_by<U: RootUnit>(unit: &mut U, x: f32) -> f32
     ensures value { result ≡ Arcs.asin binary32 x }
     ensures special { AsinValues binary32 x result }
-    ensures counted { U.RootUnit.count unit.new ≡ (if Arcs.asks binary32 x then raised (U.RootUnit.count unit.old) else U.RootUnit.count unit.old) }
+    ensures counted { U.RootUnit.count unit.new ≡ raised_if (Arcs.asks binary32 x) (U.RootUnit.count unit.old) }
 {
     generic::asin::asin_by(unit, x)
 }

@@ -12,7 +12,8 @@ pub enum Reading {
     Narrow(f32),
 }
 
-// Asks both units for one root, and says whether the answers have the same bits.
+// Asks both units for one root, and says whether the answers have the same bits. The two stay two
+// arguments: they are of two types, and each has its own clause.
 fn same_root<W: Rooted, P: RootUnit, Q: RootUnit>(first: &mut P, second: &mut Q, v: W) -> bool
     ensures same { result ≡ true }
     ensures first { P.RootUnit.count first.new ≡ raised (P.RootUnit.count first.old) }

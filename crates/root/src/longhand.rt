@@ -63,6 +63,7 @@ fn drawn_root<L: Layout>(word: L::Int) -> L::Int
         rem: zero,
         word,
     };
+    // The loop has no condition of its own, so that it leaves with the finished root.
     let mut places = 0..L::SIG_BITS;
     loop {
         hand = draw::<L>(hand);
@@ -126,6 +127,7 @@ fn positive_root<L: Layout>(ix: L::Int) -> L::Int
     m.bitand(L::SIG_MASK).bitor(e)
 }
 
+// The tests stand in the order of the ported root, which answers a status too.
 /// The root of the number with the pattern `ix`, as a pattern.
 pub fn longhand<L: Layout>(ix: L::Int) -> L::Int
     ensures { RootBits L.Layout.shape (L.Int.Int.nat ix) (L.Int.Int.nat result) }

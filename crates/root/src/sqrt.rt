@@ -201,7 +201,7 @@ struct Positive<I> {
 
 // The number `b` that the pattern stands for is the caller's, so no field of `Positive` names it.
 //
-// The exponent is kept in place where the pattern fits into 32 bits, which saves the shifts.
+// The exponent is kept in place where the pattern fits into 32 bits, which saves the shifts: two forms, as in the source.
 fn reduced<F: SqrtHelper>(x: Positive<F::Int>) -> (F::Int, F::Int)
     ensures { (b : ℕ) → Stored F.Layout.shape b (F.Int.Int.nat x.ix) x.top → (F.Int.Int.nat result.0 ≡ word_of F.Layout.shape (exp_of F.Layout.shape b) (sig_of F.Layout.shape b)) × (F.Int.Int.nat result.0 ≡ word_at F.Layout.shape (F.Int.Int.nat x.ix)) × (F.Int.Int.nat result.1 ≡ exp_of F.Layout.shape b / 2 * 2 ^ F.Layout.shape.sig) }
 {

@@ -13,13 +13,15 @@ pub trait Int: Copy + PartialOrd {
 
     ghost nat: { Self → ℕ };
 
-    // This one and the next cut, which From and TryFrom do not.
+    // This one and the next cut where the integer is the shorter, which From and TryFrom do not.
     fn from_u32(x: u32) -> Self
         ensures { nat result ≡ x % 2 ^ BITS };
 
     fn low_u32(self) -> u32
         ensures { result ≡ nat self % 2 ^ 32 };
 
+    // Methods and not operators: an operator takes two laws and a proof at each use, and a shift
+    // operator is not defined at `BITS` or more.
     fn shl(self, by: u32) -> Self
         ensures { nat result ≡ nat self * 2 ^ by % 2 ^ BITS };
 

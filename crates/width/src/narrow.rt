@@ -1,6 +1,6 @@
 // The narrow width: `u32` and `f32`.
-// `wide.rt` has the same impls, line by line, in its types' constants and std's functions: no impl may
-// be written by a macro, and default bodies over std's operators would need more laws than they save.
+// `wide.rt` has the same impls with its own constants and std's functions of its types. A macro may write
+// no impl, and default bodies over std's operators would need more laws than they save.
 ghost use Rattle.std.specs.Prelude.{◌^◌};
 ghost use Rattle.std.specs.Float.{binary32};
 ghost use Rattle.width.specs.Product.{exact};

@@ -1,6 +1,6 @@
 // The wide width: `u64` and `f64`.
-// `narrow.rt` has the same impls, line by line, in its types' constants and std's functions: no impl may
-// be written by a macro, and default bodies over std's operators would need more laws than they save.
+// `narrow.rt` has the same impls with its own constants and std's functions of its types. A macro may write
+// no impl, and default bodies over std's operators would need more laws than they save.
 ghost use Rattle.std.specs.Prelude.{◌^◌};
 ghost use Rattle.std.specs.Float.{binary64};
 ghost use Rattle.width.specs.Product.{halves};

@@ -1,8 +1,8 @@
 // Arccosine.
-ghost use Rattle.std.specs.Prelude.{◌≡◌, ℕ, T, if◌then◌else◌};
+ghost use Rattle.std.specs.Prelude.{◌≡◌, ℕ, T};
 ghost use Rattle.std.specs.Float.Ieee.{fits};
 ghost use Rattle.std.specs.Float.{sqrt};
-ghost use Rattle.root.specs.Count.{raised};
+ghost use Rattle.root.specs.Count.{raised, raised_if};
 ghost use Rattle.anglelaws.specs.AnnexF.{AcosValues};
 ghost use Rattle.anglelaws.specs.Arcs as Arcs;
 
@@ -66,7 +66,8 @@ pub(crate) fn root<W: Rooted, U: RootUnit>(unit: &mut U, z: W) -> W
     W::root_from(unit, z)
 }
 
-// What the high part `h` lacks of the root `s` of `z`.
+// What the high part `h` lacks of the root `s` of `z`. A number and its root stay two arguments here and
+// below, as in the definitions.
 pub(crate) fn low_part<W: Width>(z: W, s: W, h: W) -> W
     ensures { W.Width.val result ≡ Arcs.low_part W.Width.fmt (W.Width.val z) (W.Width.val s) (W.Width.val h) }
 {
@@ -146,7 +147,7 @@ fn above<W: ArcHelper, U: RootUnit>(unit: &mut U, x: W) -> W
 // The arccosine of what is no NaN.
 fn of_number<W: ArcHelper, U: RootUnit>(unit: &mut U, x: Number<W>) -> W
     ensures value { W.Width.val result ≡ Arcs.acos W.Width.fmt (W.Width.val x.value) }
-    ensures counted { U.RootUnit.count unit.new ≡ (if Arcs.asks W.Width.fmt (W.Width.val x.value) then raised (U.RootUnit.count unit.old) else U.RootUnit.count unit.old) }
+    ensures counted { U.RootUnit.count unit.new ≡ raised_if (Arcs.asks W.Width.fmt (W.Width.val x.value)) (U.RootUnit.count unit.old) }
 {
     if x.ix >= W::ONE_WORD {
         if x.size_is(W::ONE_WORD) {
@@ -172,7 +173,7 @@ fn of_number<W: ArcHelper, U: RootUnit>(unit: &mut U, x: Number<W>) -> W
 pub fn acos_by<W: ArcHelper, U: RootUnit>(unit: &mut U, x: W) -> W
     ensures value { W.Width.val result ≡ Arcs.acos W.Width.fmt (W.Width.val x) }
     ensures special { AcosValues W.Width.fmt (W.Width.val x) (W.Width.val result) }
-    ensures counted { U.RootUnit.count unit.new ≡ (if Arcs.asks W.Width.fmt (W.Width.val x) then raised (U.RootUnit.count unit.old) else U.RootUnit.count unit.old) }
+    ensures counted { U.RootUnit.count unit.new ≡ raised_if (Arcs.asks W.Width.fmt (W.Width.val x)) (U.RootUnit.count unit.old) }
 {
     match read(x) {
         None => x,

@@ -159,6 +159,7 @@ pub fn atan2<W: Atan2Helper>(y: W, x: W) -> W
 {
     match (read(y), read(x)) {
         (Some(y), Some(x)) => of_numbers(y, x),
+        // Two arms, since the proof goes by which of the two is NaN.
         (_, None) => x + y,
         (None, _) => x + y,
     }
