@@ -1,11 +1,37 @@
 // A line of input: two whole numbers with blanks between them.
-ghost use Rattle.std.specs.Prelude.{◌≡◌, ℕ, ◌+◌, ◌<◌, ◌≤◌, fold, MatchResult};
+ghost use Rattle.std.specs.Prelude.{◌≡◌, ℕ, ◌+◌, ◌-◌, ◌<◌, ◌≤◌, Some, None, if◌then◌else◌, fold, MatchResult};
+ghost use Rattle.std.specs.Char.{is_ascii_digit};
 ghost use Rattle.field.specs.Field.{longest};
 ghost use Rattle.field.specs.Pair.{Writes, Refused};
 
 use crate::refusal::Refusal;
 use crate::sides::Sides;
 use std::marker::Model;
+
+/// What an ASCII digit stands for.
+#[derive(Clone, Copy)]
+struct Digit(u8);
+
+impl Model for Digit {
+    ghost Value = { ℕ };
+
+    ghost view = { λ d. d.0 };
+
+    ghost invariant = { λ d. d.0 < 10 };
+
+    ghost inverse = { λ n. record { 0 = n } };
+}
+
+impl Digit {
+    fn of(byte: u8) -> Option<Self>
+        ensures { result ≡ (if is_ascii_digit byte then Some (byte - 48) else None) }
+    {
+        match byte {
+            b'0'..=b'9' => Some(Digit(byte - b'0')),
+            _ => None,
+        }
+    }
+}
 
 /// A number as far as its digits are read. Past the longest side it stays one above it.
 #[derive(Clone, Copy)]
@@ -24,18 +50,16 @@ impl Model for Capped {
 impl Capped {
     ghost use Rattle.field.specs.Lines.{longer};
 
-    fn from_digit(digit: u8) -> Self
-        requires { digit < 10 }
+    fn from_digit(digit: Digit) -> Self
         ensures { result ≡ digit }
     {
-        Capped(u64::from(digit))
+        Capped(u64::from(digit.0))
     }
 
-    fn push_digit(self, digit: u8) -> Self
-        requires { digit < 10 }
+    fn push_digit(self, digit: Digit) -> Self
         ensures { result ≡ longer self digit }
     {
-        Capped((self.0 * 10 + u64::from(digit)).min(Sides::LONGEST + 1))
+        Capped((self.0 * 10 + u64::from(digit.0)).min(Sides::LONGEST + 1))
     }
 
     fn value(self) -> u64
@@ -69,8 +93,7 @@ impl Reading {
         }
     }
 
-    fn after_digit(self, digit: u8) -> Self
-        requires { digit < 10 }
+    fn after_digit(self, digit: Digit) -> Self
         ensures { result ≡ after_digit self digit }
     {
         match self {
@@ -87,8 +110,7 @@ impl Reading {
     {
         match byte {
             b' ' | b'\t' | b'\r' => self.after_blank(),
-            b'0'..=b'9' => self.after_digit(byte - b'0'),
-            _ => Reading::Broken,
+            _ => Digit::of(byte).map_or(Reading::Broken, |digit| self.after_digit(digit)),
         }
     }
 
