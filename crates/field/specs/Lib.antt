@@ -1,3 +1,4 @@
 pub mod Field
 pub mod Pair
 pub mod Lines
+pub mod Texts

@@ -3,6 +3,7 @@ ghost use Rattle.std.specs.Prelude.{◌≡◌, ◌+◌, ◌*◌, ◌^◌, ◌<�
 ghost use Rattle.field.specs.Field.{longest, fault_of};
 
 use crate::refusal::Refusal;
+use std::fmt;
 
 /// The sides of a field in millimetres, each from 1 to 67,108,864, which is 2^26. So the sum of
 /// their squares is at most 2^53, and up to that every whole number is a wide float.
@@ -50,5 +51,16 @@ impl Sides {
     {
         let Sides { length, breadth } = self;
         length * length + breadth * breadth
+    }
+}
+
+impl fmt::Display for Sides {
+    ghost use Rattle.field.specs.Texts.{sides_text};
+
+    ghost output = { λ s. Some (sides_text s) };
+
+    fn fmt<W: fmt::Write>(&self, f: &mut fmt::Formatter<W>) -> fmt::Result {
+        let Sides { length, breadth } = self;
+        write!(f, "{length} x {breadth}")
     }
 }

@@ -4,15 +4,12 @@
 ghost use Rattle.std.specs.Prelude.{◌≡◌, true};
 
 use anyhow::ensure;
-use field::diagonal::{Reach, diagonal};
+use field::diagonal::diagonal;
 use field::line::sides_of;
-use field::sides::Sides;
 use root::agree::{Reading, agree};
 use root::known::known_roots;
 use root::unit::{Longhand, Ported, RootUnit};
-use std::io;
 use std::io::{BufRead, BufReader};
-use std::num::f64_to_bits_with_nan;
 
 fn main(rt: HostRuntime) -> anyhow::Result<()> {
     ensure!(
@@ -25,7 +22,8 @@ fn main(rt: HostRuntime) -> anyhow::Result<()> {
     for (index, line) in input.split(rt.alloc(), b'\n').enumerate() {
         match sides_of(line?.as_slice()) {
             Ok(sides) => {
-                print_field(&rt, sides, diagonal(&mut unit, sides))?;
+                let reach = diagonal(&mut unit, sides);
+                println!(rt; "{sides}: {reach}")?;
                 done = done.saturating_add(1);
             }
             Err(refusal) => println!(rt; "line {}: {refusal}", index.saturating_add(1))?,
@@ -34,13 +32,6 @@ fn main(rt: HostRuntime) -> anyhow::Result<()> {
     let asked = unit.asked();
     println!(rt; "done {done}, roots asked {asked}")?;
     Ok(())
-}
-
-fn print_field(rt: &impl Print, sides: Sides, found: Reach) -> io::Result<()> {
-    let (length, breadth) = (sides.length(), sides.breadth());
-    let Reach { reach, millimetres } = found;
-    let pattern = f64_to_bits_with_nan(reach);
-    println!(rt; "{length} x {breadth}: {millimetres} mm {pattern:016x}")
 }
 
 // A trial of the build: the known roots, and longhand beside the ported routine.
