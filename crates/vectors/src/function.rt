@@ -2,12 +2,21 @@
 ghost use Rattle.std.specs.Prelude.{◌≡◌, Some};
 ghost use Rattle.vectors.specs.Names.{stem_of, suffix_of, name_of, NamesKind, NamesFunction};
 
+use std::error::Error;
 use std::fmt;
 use std::str::FromStr;
 
 /// A name that is none of the ten.
-#[derive(Drop)]
+#[derive(Clone, Copy, Debug, PartialEq, Eq)]
 pub struct UnknownFunction;
+
+impl fmt::Display for UnknownFunction {
+    fn fmt<W: fmt::Write>(&self, f: &mut fmt::Formatter<W>) -> fmt::Result {
+        f.write_str("none of the ten functions")
+    }
+}
+
+impl Error for UnknownFunction {}
 
 #[derive(Clone, Copy, PartialEq, Eq, PartialOrd, Ord)]
 pub enum Kind {
@@ -41,7 +50,7 @@ impl FromStr for Kind {
     ghost from_str_gives = { NamesKind };
 
     fn from_str(stem: &str) -> Result<Self, UnknownFunction> {
-        // A `find` by `stem` would write each name once, but leaves a goal that needs a long proof.
+        // Tried by a `find` over `ALL`: the proof did not close.
         match stem {
             "asin" => Ok(Kind::Asin),
             "acos" => Ok(Kind::Acos),

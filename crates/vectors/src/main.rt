@@ -20,7 +20,7 @@ use std::io::{BufRead, BufReader};
 use std::str::SplitWhitespace;
 
 /// How many answers of a function were compared, and how many of them differ. The counts saturate,
-/// as that of the lines that are not read.
+/// and so does that of the lines that are not read.
 #[derive(Clone, Copy, Default)]
 struct Tally {
     compared: u32,
@@ -128,10 +128,6 @@ impl Report {
 }
 
 fn main(rt: HostRuntime) -> anyhow::Result<()> {
-    run(&rt)
-}
-
-fn run(rt: &HostRuntime) -> anyhow::Result<()> {
     ensure!(
         known_answers(),
         "known answers do not come: this program was not built as it is written"
