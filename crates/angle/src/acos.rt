@@ -7,7 +7,6 @@ ghost use Rattle.anglelaws.specs.Arcs as Arcs;
 
 use crate::generic;
 use crate::generic::acos::{ArcHelper, QuarterTurn};
-use width::Width;
 
 const PS0: f64 = 1.66666666666666657415e-01; /* 0x3FC55555, 0x55555555 */
 

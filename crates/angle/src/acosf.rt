@@ -7,7 +7,6 @@ ghost use Rattle.anglelaws.specs.Arcs as Arcs;
 
 use crate::generic;
 use crate::generic::acos::{ArcHelper, QuarterTurn};
-use width::Width;
 
 const P_S0: f32 = 1.6666586697e-01;
 

@@ -8,8 +8,8 @@ use crate::generic::acos::ArcHelper;
 use root::unit::{Ported, RootUnit};
 use width::Width;
 
-/// What a width brings to the arcsine: its text, since the narrow one takes its root in f64.
 // Both impls begin with the same match: a method of a trait that takes a `Number<Self>` gets no proof.
+/// What a width brings to the arcsine: its text, since the narrow one takes its root in f64.
 pub trait AsinHelper: ArcHelper {
     fn asin_by<U: RootUnit>(unit: &mut U, x: Self) -> Self
         ensures value { Self.Width.val result ≡ Arcs.asin Self.Width.fmt (Self.Width.val x) }
