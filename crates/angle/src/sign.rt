@@ -6,8 +6,8 @@ use width::Width;
 
 /// A width with the absolute value.
 pub trait Fabs: Width {
-    // Two texts: by one over `pattern` and `from_pattern`, atan2 takes 1.06 of libm's time, and 0.99 by
-    // these.
+    // Two texts: by one over `pattern` and `from_pattern`, atan2 takes 1.02 of libm's time, and 1.00 by
+    // these (docs/SPEED.md).
     /// Absolute value: the sign bit cleared.
     fn fabs(self) -> Self
         ensures { Self.Width.val result ≡ Formulas.fabs (Self.Width.val self) };
