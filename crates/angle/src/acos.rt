@@ -57,6 +57,7 @@ impl ArcHelper for f64 {
     ghost low_bits = { Prim.search rules };
 }
 
+// libm's name, over the generic function.
 /// Arccosine of `x`, in radians, from 0 to pi.
 pub fn acos(x: f64) -> f64
     ensures value { result ≡ Arcs.acos binary64 x }

@@ -45,6 +45,7 @@ impl ArcHelper for f32 {
     ghost low_bits = { Prim.search rules };
 }
 
+// libm's name, over the generic function.
 /// Arccosine of `x`, in radians, from 0 to pi.
 pub fn acosf(x: f32) -> f32
     ensures value { result ≡ Arcs.acos binary32 x }

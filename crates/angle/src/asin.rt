@@ -1,4 +1,5 @@
-// Arcsine (f64).
+// Arcsine (f64). `asinf.rt` differs in method, so the two stay two texts, in `small` and `of_number` too.
+// A number `z` and its root `s` are two arguments, as in the definitions.
 ghost use Rattle.std.specs.Prelude.{◌≡◌};
 ghost use Rattle.std.specs.Float.{binary64};
 ghost use Rattle.root.specs.Count.{raised, raised_if};
@@ -91,6 +92,7 @@ impl AsinHelper for f64 {
     }
 }
 
+// The generic function, at this width, with its root unit.
 /// Arcsine of `x`, in radians, from -pi/2 to pi/2, with its root from a root unit. The unit is asked
 /// once for a size from one half up to, not including, 1, and else not.
 pub fn asin_by<U: RootUnit>(unit: &mut U, x: f64) -> f64
@@ -101,6 +103,7 @@ pub fn asin_by<U: RootUnit>(unit: &mut U, x: f64) -> f64
     generic::asin::asin_by(unit, x)
 }
 
+// libm's name, over the generic function.
 /// Arcsine of `x`, in radians, from -pi/2 to pi/2.
 pub fn asin(x: f64) -> f64
     ensures value { result ≡ Arcs.asin binary64 x }

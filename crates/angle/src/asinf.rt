@@ -1,4 +1,6 @@
 // Arcsine (f32). The root and the last line are taken in f64, and rounded to f32 once.
+// `asin.rt` differs in method, so the two stay two texts, in `small` and `of_number` too. A number `z` and
+// its root `s` are two arguments, as in the definitions.
 ghost use Rattle.std.specs.Prelude.{◌≡◌};
 ghost use Rattle.std.specs.Float.{binary32};
 ghost use Rattle.root.specs.Count.{raised, raised_if};
@@ -75,6 +77,7 @@ impl AsinHelper for f32 {
     }
 }
 
+// The generic function, at this width, with its root unit.
 /// Arcsine of `x`, in radians, from -pi/2 to pi/2, with its root from a root unit. The unit is asked
 /// once for a size from one half up to, not including, 1, and else not.
 pub fn asinf_by<U: RootUnit>(unit: &mut U, x: f32) -> f32
@@ -85,6 +88,7 @@ pub fn asinf_by<U: RootUnit>(unit: &mut U, x: f32) -> f32
     generic::asin::asin_by(unit, x)
 }
 
+// libm's name, over the generic function.
 /// Arcsine of `x`, in radians, from -pi/2 to pi/2.
 pub fn asinf(x: f32) -> f32
     ensures value { result ≡ Arcs.asin binary32 x }

@@ -8,6 +8,7 @@ ghost use Rattle.anglelaws.specs.Atan as Atan;
 use crate::generic;
 use crate::generic::atan::{AtanHelper, Centre, Cuts};
 
+// Two tables, read by an index, as in the source.
 const ATANHI: [f64; 4] = [
     4.63647609000806093515e-01, /* atan(0.5)hi 0x3FDDAC67, 0x0561BB4F */
     7.85398163397448278999e-01, /* atan(1.0)hi 0x3FE921FB, 0x54442D18 */
@@ -68,6 +69,7 @@ impl AtanHelper for f64 {
     }
 }
 
+// libm's name, over the generic function.
 /// Arctangent of `x`, in radians, from -pi/2 to pi/2.
 pub fn atan(x: f64) -> f64
     ensures value { result ≡ Atan.atan binary64 x }

@@ -24,6 +24,7 @@ impl Atan2Helper for f64 {
     ghost cut = { Prim.search rules };
 }
 
+// libm's name, over the generic function.
 /// Arctangent of `y/x` in the quadrant of (x, y), in radians, from -pi to pi.
 pub fn atan2(y: f64, x: f64) -> f64
     ensures value { result ≡ Atan2.atan2 binary64 y x }

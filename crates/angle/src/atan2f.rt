@@ -26,6 +26,7 @@ impl Atan2Helper for f32 {
     ghost cut = { Prim.search rules };
 }
 
+// libm's name, over the generic function.
 /// Arctangent of `y/x` in the quadrant of (x, y), in radians, from -pi to pi.
 pub fn atan2f(y: f32, x: f32) -> f32
     ensures value { result ≡ Atan2.atan2 binary32 y x }

@@ -8,6 +8,7 @@ ghost use Rattle.anglelaws.specs.Atan as Atan;
 use crate::generic;
 use crate::generic::atan::{AtanHelper, Centre, Cuts};
 
+// Two tables, read by an index, as in the source.
 const ATAN_HI: [f32; 4] = [
     4.6364760399e-01, /* atan(0.5)hi 0x3eed6338 */
     7.8539812565e-01, /* atan(1.0)hi 0x3f490fda */
@@ -62,6 +63,7 @@ impl AtanHelper for f32 {
     }
 }
 
+// libm's name, over the generic function.
 /// Arctangent of `x`, in radians, from -pi/2 to pi/2.
 pub fn atanf(x: f32) -> f32
     ensures value { result ≡ Atan.atan binary32 x }

@@ -1,4 +1,4 @@
-// The texts that serve both widths.
+// The functions over the width.
 pub mod acos;
 pub mod asin;
 pub mod atan;

@@ -20,8 +20,8 @@ fn answer_is<W: Width>(x: W, known: W::Int) -> bool
     x.to_pattern() == known
 }
 
-// Angles: atan2 of +0 and -0 and of the infinities, asin and acos of 1, the narrow atan from 2^26
-// on, and the narrow atan2 of 1 and 0.
+// Angles: atan2 of +0 and -0 and of the infinities, asin and acos of 1, the narrow atan of 2^26,
+// and the narrow atan2 of 1 and 0.
 fn known_angles() -> bool
     ensures { result ≡ true }
 {

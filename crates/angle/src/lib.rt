@@ -1,5 +1,6 @@
 // Angles: libm's inverse trigonometry. Each answer is the float that libm's branches and operations
-// give. `acos` to `atanf`, and the functions in them, carry libm's names over the generic ones.
+// give. `generic` has the functions over the width; `acos` to `atanf`, under libm's file names, what a
+// width brings to them, and libm's names.
 #![tactic(auto)]
 
 pub mod acos;

@@ -53,7 +53,7 @@ fn high_word<W: Width>(bits: W::Int) -> u32
     bits.shr(W::BITS.saturating_sub(32)).low_u32()
 }
 
-// What lies below the top word of a pattern.
+// What lies below the top word of a pattern: of a narrow one, nothing.
 fn low_word<W: Width>(bits: W::Int) -> u32
     ensures { result ≡ W.Int.Int.nat bits % weight W.Width.fmt }
 {

@@ -33,6 +33,7 @@ impl Digit {
     }
 }
 
+// `Digit` and this are two types, by their bounds.
 /// A number as far as its digits are read. Past the longest side it stays one above it.
 #[derive(Clone, Copy)]
 struct Capped(u64);
@@ -50,6 +51,7 @@ impl Model for Capped {
 impl Capped {
     ghost use Rattle.field.specs.Lines.{longer};
 
+    // Private, with a clause; no From is plainer.
     fn from_digit(digit: Digit) -> Self
         ensures { result ≡ digit }
     {

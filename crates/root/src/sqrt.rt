@@ -192,7 +192,8 @@ fn reduced_shifted<F: SqrtHelper>(ix: F::Int, top: u32) -> (F::Int, F::Int)
     }
 }
 
-// A positive number: its pattern with a leading one, and its exponent field, which wraps below zero.
+// A positive number: its pattern, brought to a leading one where it is subnormal, and its exponent field,
+// which then wraps below zero.
 #[derive(Clone, Copy)]
 struct Positive<I> {
     ix: I,
@@ -234,7 +235,7 @@ fn normalized<F: SqrtHelper>(ix: F::Int) -> Positive<F::Int>
     }
 }
 
-// Whether the pattern is not that of a positive normal number.
+// Whether the pattern is not that of a positive normal number: two forms, as in the source.
 fn special_case<F: SqrtHelper>(ix: F::Int) -> bool
     ensures { F.Int.Int.nat ix < 2 ^ F.Int.Int.BITS → result ≡ not (is_normal F.Layout.shape (F.Int.Int.nat ix)) }
 {
@@ -248,7 +249,7 @@ fn special_case<F: SqrtHelper>(ix: F::Int) -> bool
     }
 }
 
-// The root of what is no positive normal number.
+// The root of what is no positive normal number. The tests stand in the source's order.
 fn special_root<F: SqrtHelper>(ix: F::Int) -> FpResult<F::Int>
     requires { is_normal F.Layout.shape (F.Int.Int.nat ix) ≡ false }
     ensures root { RootBits F.Layout.shape (F.Int.Int.nat ix) (F.Int.Int.nat result.val) }

@@ -7,6 +7,7 @@ use angle::generic::asin::AsinHelper;
 use angle::generic::atan2::Atan2Helper;
 use root::sqrt::SqrtHelper;
 
+// A call has readings, which a `Kind` has not, so the two are two enums.
 /// A call at the precision whose patterns are of the type `I`.
 #[derive(Clone, Copy)]
 pub enum Call<I> {

@@ -1,5 +1,5 @@
 // The wide width: `u64` and `f64`.
-// `narrow.rt` has the same impls with its own constants and std's functions of its types. A macro may write
+// `narrow.rt` has the same impls, but for `wmulh`, with its own constants and std's functions of its types. A macro may write
 // no impl, and default bodies over std's operators would need more laws than they save.
 ghost use Rattle.std.specs.Prelude.{◌^◌};
 ghost use Rattle.std.specs.Float.{binary64};

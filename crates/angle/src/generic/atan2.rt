@@ -111,7 +111,7 @@ fn past_cut<W: Atan2Helper>(small: u32, large: u32) -> bool
     u64::from(small) + u64::from(W::PI.cut) < u64::from(large)
 }
 
-// Both are finite, and neither is zero; or y is infinite.
+// Both are finite, and neither is zero; or y is infinite. The two stay two arguments, each with its facts.
 fn quotient<W: Atan2Helper>(y: Number<W>, x: Number<W>) -> W
     ensures { W.Width.val result ≡ Atan2.quotient W.Width.fmt (W.Width.val y.value) (W.Width.val x.value) }
 {
