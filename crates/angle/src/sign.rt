@@ -14,6 +14,7 @@ pub trait Fabs: Width {
 }
 
 impl Fabs for f64 {
+    #[tactic(auto, using(anglelaws::proofs::Signs::nan_size, anglelaws::proofs::Signs::masked_size, anglelaws::proofs::Signs::masked_number))]
     fn fabs(self) -> f64 {
         if self.is_nan() {
             return self;
@@ -23,6 +24,7 @@ impl Fabs for f64 {
 }
 
 impl Fabs for f32 {
+    #[tactic(auto, using(anglelaws::proofs::Signs::nan_size, anglelaws::proofs::Signs::masked_size, anglelaws::proofs::Signs::masked_number))]
     fn fabs(self) -> f32 {
         if self.is_nan() {
             return self;

@@ -1,9 +1,11 @@
 -- The sign bit: what it says, and what is left without it.
-use Rattle.std.proofs.Common.{◌≡◌, ℕ, zero, suc, ◌+◌, ◌/◌, ◌%◌, ◌<◌, Bool, true, false, cond, not, T, eqb, leb, sym, refl, ap, ◌∙◌, subst, ap₂, true≢false, mod-lt, mod-eq_of_lt, arith}
+use Rattle.std.proofs.Common.{◌≡◌, ℕ, zero, suc, ◌+◌, ◌-◌, ◌^◌, ◌/◌, ◌%◌, ◌<◌, Bool, true, false, cond, not, T, eqb, leb, sym, refl, ap, ◌∙◌, subst, ap₂, true≢false, mod-lt, mod-eq_of_lt, arith}
 use lib.Ieee.{neg, Float, Format, binary32, binary64, nan, inf, fin, odd, prec, low, hid, ones, top, fits, is_nan, nan_bits, of_fields, of_bits, to_bits}
 use lib.Ieee.Bits.{nan_bits_is}
 use Rattle.std.specs.Float.{is_sign_negative, float_with_sign}
+use lib.Bits.{bit_and}
 use Rattle.std.proofs.lemmas.Bool.{lt-leb}
+use Rattle.std.proofs.lemmas.Nat.{and_mask}
 use Rattle.rootlaws.proofs.Floats.{low_digits}
 use Rattle.width.specs.Pattern.{PatternOf}
 use Rattle.width.proofs.Patterns.{only_nan, pattern_of}
@@ -70,13 +72,16 @@ size_number nan = refl
 size_number (inf s) = refl
 size_number (fin s m e) = refl
 
--- the same for code that clears the bit of a number v
-module _ (f : Format) (v : Float) (k : T (fits f v)) (n : is_nan v ≡ false) (m : ℕ) (i : m ≡ to_bits f v % top f) where
-  pub cleared_size : of_bits f m ≡ fabs v
-  cleared_size = ap (of_bits f) i ∙ sym (size_bits f v (to_bits f v) (pattern_of f v k n))
+-- the same for code that clears the bit of a number by a mask
+masked : (f : Format) (n mask : ℕ) → suc mask ≡ top f → bit_and n mask ≡ n % top f
+masked binary32 n mask i = let e : mask ≡ 2 ^ 31 - 1 = omega arith in ap (bit_and n) e ∙ and_mask n 31
+masked binary64 n mask i = let e : mask ≡ 2 ^ 63 - 1 = omega arith in ap (bit_and n) e ∙ and_mask n 63
 
-  pub cleared_number : T (not (nan_bits f m))
-  cleared_number = subst (λ b. T (not b)) (sym (nan_bits_is f m ∙ ap is_nan cleared_size ∙ size_number v ∙ n)) tt
+pub masked_size : (f : Format) (v : Float) (mask : ℕ) → T (fits f v) → is_nan v ≡ false → suc mask ≡ top f → of_bits f (bit_and (to_bits f v) mask) ≡ fabs v
+masked_size f v mask k n i = ap (of_bits f) (masked f (to_bits f v) mask i) ∙ sym (size_bits f v (to_bits f v) (pattern_of f v k n))
+
+pub masked_number : (f : Format) (v : Float) (mask : ℕ) → T (fits f v) → is_nan v ≡ false → suc mask ≡ top f → T (not (nan_bits f (bit_and (to_bits f v) mask)))
+masked_number f v mask k n i = subst (λ b. T (not b)) (sym (nan_bits_is f (bit_and (to_bits f v) mask) ∙ ap is_nan (masked_size f v mask k n i) ∙ size_number v ∙ n)) tt
 
 -- the narrow constant below zero, as code writes it
 pub narrow_pi_lo : neg (of_bits binary32 0x33bbbd2e) ≡ pi_lo binary32
