@@ -1,6 +1,7 @@
 // The ten functions, by name.
-ghost use Rattle.std.specs.Prelude.{◌≡◌, Some};
+ghost use Rattle.std.specs.Prelude.{◌≡◌, ◌<◌, Some, slice_get};
 ghost use Rattle.vectors.specs.Names.{stem_of, suffix_of, name_of, NamesKind, NamesFunction};
+ghost use Rattle.vectors.specs.Tallies.{place_of};
 
 use std::error::Error;
 use std::fmt;
@@ -18,7 +19,7 @@ impl fmt::Display for UnknownFunction {
 
 impl Error for UnknownFunction {}
 
-#[derive(Clone, Copy, PartialEq, Eq, PartialOrd, Ord)]
+#[derive(Clone, Copy, PartialEq, Eq)]
 pub enum Kind {
     Asin,
     Acos,
@@ -28,8 +29,6 @@ pub enum Kind {
 }
 
 impl Kind {
-    pub const ALL: [Kind; 5] = [Kind::Asin, Kind::Acos, Kind::Atan, Kind::Atan2, Kind::Sqrt];
-
     /// Its name at wide precision.
     fn stem(self) -> &'static str
         ensures { result.now ≡ stem_of self }
@@ -50,7 +49,7 @@ impl FromStr for Kind {
     ghost from_str_gives = { NamesKind };
 
     fn from_str(stem: &str) -> Result<Self, UnknownFunction> {
-        // Tried by a `find` over `ALL`: the proof did not close.
+        // Tried by a `find` over the kinds: the proof did not close.
         match stem {
             "asin" => Ok(Kind::Asin),
             "acos" => Ok(Kind::Acos),
@@ -62,15 +61,13 @@ impl FromStr for Kind {
     }
 }
 
-#[derive(Clone, Copy, PartialEq, Eq, PartialOrd, Ord)]
+#[derive(Clone, Copy, PartialEq, Eq)]
 pub enum Precision {
     Wide,
     Narrow,
 }
 
 impl Precision {
-    pub const ALL: [Precision; 2] = [Precision::Wide, Precision::Narrow];
-
     /// What it adds to a name.
     fn suffix(self) -> &'static str
         ensures { result.now ≡ suffix_of self }
@@ -82,11 +79,55 @@ impl Precision {
     }
 }
 
-/// One of the ten functions. Their order is that of the report.
-#[derive(Clone, Copy, PartialEq, Eq, PartialOrd, Ord)]
+/// One of the ten functions.
+#[derive(Clone, Copy, PartialEq, Eq)]
 pub struct Function {
     pub kind: Kind,
     pub precision: Precision,
+}
+
+impl Function {
+    /// The ten, each at its position.
+    pub fn all() -> [Function; 10]
+        ensures { (f : Function) → slice_get result (place_of f) ≡ Some f }
+    {
+        [
+            Function::new(Kind::Asin, Precision::Wide),
+            Function::new(Kind::Asin, Precision::Narrow),
+            Function::new(Kind::Acos, Precision::Wide),
+            Function::new(Kind::Acos, Precision::Narrow),
+            Function::new(Kind::Atan, Precision::Wide),
+            Function::new(Kind::Atan, Precision::Narrow),
+            Function::new(Kind::Atan2, Precision::Wide),
+            Function::new(Kind::Atan2, Precision::Narrow),
+            Function::new(Kind::Sqrt, Precision::Wide),
+            Function::new(Kind::Sqrt, Precision::Narrow),
+        ]
+    }
+
+    fn new(kind: Kind, precision: Precision) -> Self
+        ensures { result ≡ record { kind = kind; precision = precision } }
+    {
+        Function { kind, precision }
+    }
+
+    /// Its position among the ten, in the order of the report.
+    pub fn position(self) -> usize
+        ensures value { result ≡ place_of self }
+        ensures few { result < 10 }
+    {
+        let wide = match self.kind {
+            Kind::Asin => 0,
+            Kind::Acos => 2,
+            Kind::Atan => 4,
+            Kind::Atan2 => 6,
+            Kind::Sqrt => 8,
+        };
+        match self.precision {
+            Precision::Wide => wide,
+            Precision::Narrow => wide + 1,
+        }
+    }
 }
 
 impl fmt::Display for Function {

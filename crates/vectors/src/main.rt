@@ -1,10 +1,9 @@
 // Replays a list of libm's answers: asks our functions the same, and counts what differs.
 #![tactic(auto)]
 
-ghost use Rattle.std.specs.Prelude.{◌≡◌, IfSome, OnOk};
-ghost use Rattle.std.specs.BTreeMap.{get};
+ghost use Rattle.std.specs.Prelude.{◌≡◌, Some, IfSome};
 ghost use Rattle.vectors.specs.Answers.{kind_of, function_of};
-ghost use Rattle.vectors.specs.Tallies.{noted, NotesOnly};
+ghost use Rattle.vectors.specs.Tallies.{nothing, noted, tally_of, NotesOnly};
 
 mod function;
 mod question;
@@ -13,8 +12,6 @@ use angle::known::known_answers;
 use anyhow::ensure;
 use function::{Function, Kind, Precision};
 use question::{Call, Question};
-use std::alloc::{AllocError, Global};
-use std::collections::BTreeMap;
 use std::fmt;
 use std::io::{BufRead, BufReader};
 use std::str::SplitWhitespace;
@@ -88,42 +85,43 @@ fn read_line(line: &str) -> Option<(Question, u64)> {
     }
 }
 
-/// The tally of each function, and how many lines could not be read.
+/// The tally of each function, at its position, and how many lines could not be read.
 #[derive(Drop)]
 struct Report {
-    tallies: BTreeMap<Function, Tally>,
+    tallies: [Tally; 10],
     unread: u32,
 }
 
 impl Report {
-    fn new(alloc: Global) -> Result<Self, AllocError> {
-        let mut tallies = BTreeMap::new(alloc);
-        for kind in Kind::ALL {
-            for precision in Precision::ALL {
-                tallies.insert(Function { kind, precision }, Tally::default())?;
-            }
+    fn new() -> Self
+        ensures tallies { (f : Function) → tally_of result.tallies f ≡ Some nothing }
+        ensures unread { result.unread ≡ 0 }
+    {
+        Report {
+            tallies: [Tally::default(); 10],
+            unread: 0,
         }
-        Ok(Report { tallies, unread: 0 })
     }
 
-    fn note(&mut self, function: Function, same: bool) -> Result<(), AllocError>
-        ensures { OnOk result (NotesOnly
-            (get ⟦<Function as Ord>⟧.cmp self.old.tallies)
-            (get ⟦<Function as Ord>⟧.cmp self.new.tallies) function same) }
+    fn tally(&self, function: Function) -> Tally
+        ensures { Some result ≡ tally_of self.now.tallies function }
     {
-        self.tallies.entry(function)?.or_default().note(same);
-        Ok(())
+        self.tallies[function.position()]
+    }
+
+    fn note(&mut self, question: Question, same: bool)
+        ensures tallies { NotesOnly (tally_of self.old.tallies) (tally_of self.new.tallies) (function_of question) same }
+        ensures unread { self.new.unread ≡ self.old.unread }
+    {
+        self.tallies[question.position()].note(same);
     }
 
     // Asks the question of a line, if the line can be read.
-    fn replay(&mut self, line: &str) -> Result<(), AllocError> {
+    fn replay(&mut self, line: &str) {
         match read_line(line) {
-            Some((question, answer)) => {
-                self.note(question.function(), question.answer() == answer)?
-            }
+            Some((question, answer)) => self.note(question, question.answer() == answer),
             None => self.unread = self.unread.saturating_add(1),
         }
-        Ok(())
     }
 }
 
@@ -132,12 +130,12 @@ fn main(rt: HostRuntime) -> anyhow::Result<()> {
         known_answers(),
         "known answers do not come: this program was not built as it is written"
     );
-    let mut report = Report::new(rt.alloc())?;
+    let mut report = Report::new();
     for line in BufReader::new(rt.alloc(), rt.stdin())?.lines(rt.alloc()) {
-        report.replay(line?.as_str())?;
+        report.replay(line?.as_str());
     }
-    for (function, tally) in &report.tallies {
-        println!(rt; "{function}: {tally}")?;
+    for function in Function::all() {
+        println!(rt; "{function}: {}", report.tally(function))?;
     }
     println!(rt; "lines not read: {}", report.unread)?;
     Ok(())

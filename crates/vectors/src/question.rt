@@ -1,6 +1,7 @@
 // A call of one of the ten functions, with its readings as patterns.
-ghost use Rattle.std.specs.Prelude.{◌≡◌};
+ghost use Rattle.std.specs.Prelude.{◌≡◌, ◌<◌};
 ghost use Rattle.vectors.specs.Answers.{AnswersCall, AnswerTo, kind_of, function_of};
+ghost use Rattle.vectors.specs.Tallies.{position_of};
 
 use crate::function::{Function, Kind, Precision};
 use angle::generic::asin::AsinHelper;
@@ -76,5 +77,13 @@ impl Question {
                 precision: Precision::Narrow,
             },
         }
+    }
+
+    /// The position of its function in the report.
+    pub fn position(self) -> usize
+        ensures value { result ≡ position_of self }
+        ensures few { result < 10 }
+    {
+        self.function().position()
     }
 }
