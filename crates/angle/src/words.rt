@@ -1,16 +1,34 @@
 // A number by the words of its pattern.
-ghost use Rattle.std.specs.Prelude.{◌≡◌, T, ◌%◌, ◌/◌, ◌^◌, true, false, not, ◌&&◌, ◌==◌, MatchOption, is_nan};
+ghost use Rattle.std.specs.Prelude.{◌≡◌, T, ⊤, ◌%◌, ◌/◌, ◌^◌, true, false, not, ◌&&◌, ◌==◌, MatchOption, is_nan};
 ghost use Rattle.std.specs.Float.{is_sign_negative};
 ghost use Rattle.std.specs.Float.Ieee.{fits};
 ghost use Rattle.anglelaws.specs.Words.{top_word, low_word, is_size, one_word, infinity_word, weight};
+ghost use Rattle.angle.specs.Words.{WordsOf};
 
 use crate::numbers::Numerals;
+use std::alloc::AllocError;
 use width::{Int, Layout, Width};
 
-/// A number, which is no NaN, with what the branches of an angle read of it: its sign bit, its top
-/// word with that bit cleared, and what lies below the top word. The top word is the upper 32 bits
-/// of a wide pattern and the whole narrow one, below which there is nothing.
-#[derive(Drop)]
+/// What the branches of an angle read of a number: its sign bit, its top word with that bit
+/// cleared, and what lies below the top word. The top word is the upper 32 bits of a wide pattern
+/// and the whole narrow one, below which there is nothing.
+#[derive(Clone, Copy)]
+pub struct Words {
+    pub negative: bool,
+    pub ix: u32,
+    pub lx: u32,
+}
+
+impl Words {
+    /// Whether the size is the number with this top word and nothing below it.
+    pub fn size_is(self, top: u32) -> bool
+        ensures { result ≡ (self.ix == top && self.lx == 0) }
+    {
+        self.ix == top && self.lx == 0
+    }
+}
+
+/// A number, which is no NaN, with its words.
 pub struct Number<W: Width> {
     pub value: W,
     pub negative: bool,
@@ -22,12 +40,36 @@ pub struct Number<W: Width> {
     pub ghost low: { lx ≡ low_word W.Width.fmt (W.Width.val value) },
 }
 
+impl<W: Width> Copy for Number<W> {}
+
+// Not derived, since the struct has ghost fields.
+impl<W: Width> Clone for Number<W> {
+    ghost is_clone = { λ n m. m ≡ n };
+
+    ghost is_infallible = { λ _. ⊤ };
+
+    fn clone(&self) -> Result<Self, AllocError> {
+        Ok(*self)
+    }
+}
+
 impl<W: Width> Number<W> {
+    /// Its words alone.
+    pub fn words(&self) -> Words
+        ensures { WordsOf W.Width.fmt (W.Width.val self.now.value) result }
+    {
+        Words {
+            negative: self.negative,
+            ix: self.ix,
+            lx: self.lx,
+        }
+    }
+
     /// Whether the size is the number with this top word and nothing below it.
     pub fn size_is(&self, top: u32) -> bool
         ensures { result ≡ is_size W.Width.fmt top (W.Width.val self.now.value) }
     {
-        self.ix == top && self.lx == 0
+        self.words().size_is(top)
     }
 }
 

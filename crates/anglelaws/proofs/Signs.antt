@@ -72,16 +72,24 @@ size_number nan = refl
 size_number (inf s) = refl
 size_number (fin s m e) = refl
 
--- the same for code that clears the bit of a number by a mask
+-- the same for code that clears the bit of a number v
+module _ (f : Format) (v : Float) (k : T (fits f v)) (n : is_nan v ≡ false) (m : ℕ) (i : m ≡ to_bits f v % top f) where
+  pub cleared_size : of_bits f m ≡ fabs v
+  cleared_size = ap (of_bits f) i ∙ sym (size_bits f v (to_bits f v) (pattern_of f v k n))
+
+  pub cleared_number : T (not (nan_bits f m))
+  cleared_number = subst (λ b. T (not b)) (sym (nan_bits_is f m ∙ ap is_nan cleared_size ∙ size_number v ∙ n)) tt
+
+-- and by a mask
 masked : (f : Format) (n mask : ℕ) → suc mask ≡ top f → bit_and n mask ≡ n % top f
 masked binary32 n mask i = let e : mask ≡ 2 ^ 31 - 1 = omega arith in ap (bit_and n) e ∙ and_mask n 31
 masked binary64 n mask i = let e : mask ≡ 2 ^ 63 - 1 = omega arith in ap (bit_and n) e ∙ and_mask n 63
 
 pub masked_size : (f : Format) (v : Float) (mask : ℕ) → T (fits f v) → is_nan v ≡ false → suc mask ≡ top f → of_bits f (bit_and (to_bits f v) mask) ≡ fabs v
-masked_size f v mask k n i = ap (of_bits f) (masked f (to_bits f v) mask i) ∙ sym (size_bits f v (to_bits f v) (pattern_of f v k n))
+masked_size f v mask k n i = cleared_size f v k n (bit_and (to_bits f v) mask) (masked f (to_bits f v) mask i)
 
 pub masked_number : (f : Format) (v : Float) (mask : ℕ) → T (fits f v) → is_nan v ≡ false → suc mask ≡ top f → T (not (nan_bits f (bit_and (to_bits f v) mask)))
-masked_number f v mask k n i = subst (λ b. T (not b)) (sym (nan_bits_is f (bit_and (to_bits f v) mask) ∙ ap is_nan (masked_size f v mask k n i) ∙ size_number v ∙ n)) tt
+masked_number f v mask k n i = cleared_number f v k n (bit_and (to_bits f v) mask) (masked f (to_bits f v) mask i)
 
 -- the narrow constant below zero, as code writes it
 pub narrow_pi_lo : neg (of_bits binary32 0x33bbbd2e) ≡ pi_lo binary32
