@@ -41,12 +41,12 @@ impl fmt::Display for Tally {
     }
 }
 
-// The next word as a pattern, in hexadecimal.
-fn read_pattern<I: TryFrom<u64>>(words: &mut SplitWhitespace<'_>) -> Option<I>
+// A word as a pattern, in hexadecimal.
+fn read_pattern<I: TryFrom<u64>>(word: &str) -> Option<I>
 where
     I::Error: Drop,
 {
-    let n = u64::from_str_radix(words.next()?, 16).ok()?;
+    let n = u64::from_str_radix(word, 16).ok()?;
     I::try_from(n).ok()
 }
 
@@ -56,11 +56,11 @@ where
     ensures { IfSome result (λ call. kind_of call ≡ kind) }
 {
     Some(match kind {
-        Kind::Asin => Call::Asin(read_pattern(words)?),
-        Kind::Acos => Call::Acos(read_pattern(words)?),
-        Kind::Atan => Call::Atan(read_pattern(words)?),
-        Kind::Atan2 => Call::Atan2(read_pattern(words)?, read_pattern(words)?),
-        Kind::Sqrt => Call::Sqrt(read_pattern(words)?),
+        Kind::Asin => Call::Asin(read_pattern(words.next()?)?),
+        Kind::Acos => Call::Acos(read_pattern(words.next()?)?),
+        Kind::Atan => Call::Atan(read_pattern(words.next()?)?),
+        Kind::Atan2 => Call::Atan2(read_pattern(words.next()?)?, read_pattern(words.next()?)?),
+        Kind::Sqrt => Call::Sqrt(read_pattern(words.next()?)?),
     })
 }
 
@@ -78,7 +78,7 @@ fn read_line(line: &str) -> Option<(Question, u64)> {
     let mut words = line.split_whitespace();
     let function = words.next()?.parse::<Function>().ok()?;
     let question = read_question(function, &mut words)?;
-    let answer = read_pattern(&mut words)?;
+    let answer = read_pattern(words.next()?)?;
     match words.next() {
         None => Some((question, answer)),
         Some(_) => None,
